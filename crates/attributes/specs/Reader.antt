@@ -1,0 +1,74 @@
+-- Reading a line of an attributes table: `dot`, a dot number, a state. Faults 5, 6, 8, 9 and 16 as met from left to right.
+use Prim.Native.Nat.{ℕ, _+_, _-_}
+use mathlib.Core.Bool.{Bool, true, false, not, _&&_}
+use mathlib.Core.List.{List, [], _∷_}
+use lib.ListN.{length, getD, drop}
+use lib.Dec.{eqb, leb}
+use Rattle.basics.specs.Ascii.{ascii}
+use Rattle.basics.specs.Choice.{pick}
+use Rattle.basics.specs.declared.Refusal.{Refusal}
+use Rattle.basics.specs.declared.Refusal.the-variants.{UnknownDirective, MissingOperand, BadDots, TrailingText, BadState}
+use Rattle.lines.specs.declared.Word.{Word}
+use Rattle.lines.specs.Words.{wordAt, bytesOf, isMissing, sameBytes, isOver}
+use Rattle.attributes.specs.declared.Attribute.{Attribute}
+use Rattle.attributes.specs.declared.Attribute.the-variants as A
+use Rattle.attributes.specs.declared.State.{State}
+use Rattle.attributes.specs.declared.State.the-variants.{On, Off}
+use Rattle.attributes.specs.declared.StateOperand.{StateOperand}
+use Rattle.attributes.specs.declared.StateOperand.the-variants.{Bad, Is}
+use Rattle.attributes.specs.declared.DotLine.{DotLine}
+use Rattle.attributes.specs.declared.DotLine.the-variants.{Fault, Nothing, Dot}
+
+-- the state that a sign says of a name: `=` on, `~` off
+abbrev pub signed : ℕ → Attribute → StateOperand
+signed sign name = pick (eqb sign 61) (Is (On name)) (pick (eqb sign 126) (Is (Off name)) Bad)
+
+-- the eight names, which match exactly, behind a sign
+unfoldable pub namedState : ℕ → List ℕ → StateOperand
+namedState sign name =
+    pick (sameBytes name (ascii "fg-blue")) (signed sign A.FgBlue)
+    (pick (sameBytes name (ascii "fg-green")) (signed sign A.FgGreen)
+    (pick (sameBytes name (ascii "fg-red")) (signed sign A.FgRed)
+    (pick (sameBytes name (ascii "fg-bright")) (signed sign A.FgBright)
+    (pick (sameBytes name (ascii "bg-blue")) (signed sign A.BgBlue)
+    (pick (sameBytes name (ascii "bg-green")) (signed sign A.BgGreen)
+    (pick (sameBytes name (ascii "bg-red")) (signed sign A.BgRed)
+    (pick (sameBytes name (ascii "blink")) (signed sign A.Blink)
+    Bad)))))))
+
+-- a state operand is a whole word
+unfoldable pub stateOf : List ℕ → StateOperand
+stateOf w = namedState (getD w 0 0) (drop 1 w)
+
+-- a dot number is one digit 1 to 8
+abbrev pub isDotNumber : List ℕ → Bool
+isDotNumber w = eqb (length w) 1 && (leb 49 (getD w 0 0) && leb (getD w 0 0) 56)
+
+-- where the word is there, what follows from it, else 6 at the line's end
+abbrev pub ifThere : Word → DotLine → DotLine
+ifThere w more = pick (isMissing w) (Fault MissingOperand 0) more
+
+abbrev pub stateLine : List ℕ → ℕ → Word → StateOperand → ℕ → DotLine
+stateLine line dot w Bad left = Fault BadState (length line - w .start)
+stateLine line dot w (Is state) left =
+    pick (isOver line (w .end)) (Dot dot state left) (Fault TrailingText (length line - wordAt line (w .end) .start))
+
+-- behind the dot number
+unfoldable pub stateAt : List ℕ → ℕ → ℕ → ℕ → DotLine
+stateAt line dot at left =
+    let w : Word = wordAt line at in
+    ifThere w (stateLine line dot w (stateOf (bytesOf line w)) left)
+
+-- behind the word `dot`
+unfoldable pub dotAt : List ℕ → ℕ → ℕ → DotLine
+dotAt line at left =
+    let w : Word = wordAt line at in
+    let state : DotLine = stateAt line (getD line (w .start) 0 - 49) (w .end) left in
+    ifThere w (pick (isDotNumber (bytesOf line w)) state (Fault BadDots (length line - w .start)))
+
+-- `dot` is the only directive word
+unfoldable pub dotLine : List ℕ → DotLine
+dotLine line =
+    let w : Word = wordAt line 0 in
+    let dot : DotLine = dotAt line (w .end) (length line - w .start) in
+    pick (sameBytes (bytesOf line w) (ascii "dot")) dot (Fault UnknownDirective (length line - w .start))

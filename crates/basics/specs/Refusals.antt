@@ -1,0 +1,33 @@
+-- The refusals by number, and what any call answers in the numbers of document 01.
+use Prim.Native.Nat.{ℕ}
+use Rattle.basics.specs.declared.Refusal.{Refusal}
+use Rattle.basics.specs.declared.Refusal.the-variants as R
+
+-- the table "Numbers of refusal"
+abbrev pub numberOf : Refusal → ℕ
+numberOf R.TextTooLong = 1
+numberOf R.ShortSlice = 2
+numberOf R.LineTooLong = 3
+numberOf R.NotUtf8 = 4
+numberOf R.UnknownDirective = 5
+numberOf R.MissingOperand = 6
+numberOf R.BadCharacter = 7
+numberOf R.BadDots = 8
+numberOf R.TrailingText = 9
+numberOf R.TooManyConditions = 10
+numberOf R.AlreadyDefined = 11
+numberOf R.AliasLoop = 12
+numberOf R.TableFull = 13
+numberOf R.NotScalar = 14
+numberOf R.NotTable = 15
+numberOf R.BadState = 16
+
+-- what a call answers: its value, or the number and the place of its refusal
+pub data Reply (A : Type 0) : Type 0 where
+  answered : A → Reply A
+  refused : ℕ → ℕ → Reply A
+
+-- a call that goes on with the value of an earlier answer; a refusal stands
+abbrev pub andThen : {A B : Type 0} → Reply A → (A → Reply B) → Reply B
+andThen (answered a) more = more a
+andThen (refused number place) more = refused number place

@@ -1,0 +1,29 @@
+-- The cases that document 01 marks with *: one claim over one table, closed by computation, from the bytes of a text to the answers.
+use mathlib.Core.Path.{_≡_, refl}
+use mathlib.Core.Bool.{true}
+use Rattle.attributes.specs.Cells.{cellFrom}
+use Rattle.attributes.specs.Compile.{readLine as readLine-attributes, step as step-attributes, compiled as compiled-attributes}
+use Rattle.attributes.specs.Reader.{namedState, stateOf, stateAt, dotAt, dotLine}
+use Rattle.compiler.specs.Compile.{readLine as readLine-compiler, lineEffect, step as step-compiler, compiled as compiled-compiler, effects, compileReply, compileWords}
+use Rattle.compiler.specs.Conditions.{hasGlyph, hasCell}
+use Rattle.compiler.specs.Reader.{directiveOf, finished, dotsLine, aliasLine, glyphCondition, cellCondition, frontOf, ifHolds, readFrom}
+use Rattle.definitions.specs.Definitions.{find, explicit, aliasOf, walkWithin, walk, aliases, typedIn}
+use Rattle.definitions.specs.Effects.{verdictOf}
+use Rattle.growth.specs.Cases.{marked, wordsFor, comesOut, everyOne}
+use Rattle.lines.specs.Lines.{linesOf, withoutCR}
+use Rattle.lines.specs.Texts.{openingOf, runLines, runText}
+use Rattle.lines.specs.Words.{isBlank, firstFrom, firstAt, wordAt, sameBytes, isOver}
+use Rattle.lookup.specs.Calls.{lookupReply, firstNoScalar, pagePlan}
+use Rattle.lookup.specs.Rules.{candidates, choose, rulesFrom3, lookup}
+use Rattle.operands.specs.Characters.{digitOf, withDigit, digitsFrom, plainOf, shortOf, radixOf, numberOf, characterOf, byteOf}
+use Rattle.operands.specs.Dots.{raiseBy, raise, raiseInside, endsAt, digitsAt, insideAt, cellAt, dotsAt}
+use Rattle.operands.specs.Operands.{characterAt, dotsOperandAt}
+use Rattle.table.specs.Check.{zeroFrom, checkFrom, checkOf, lentTable}
+use Rattle.table.specs.Words.{wordsOf, isSoundWord, meaningOf, definitions}
+use Rattle.typing.specs.Typing.{entriesFrom}
+use Rattle.unicode.specs.Characters.{localOf, standsFor}
+use Rattle.unicode.specs.Utf8.{afterFirst, afterFurther, utf8From}
+
+pub marked-cases : everyOne marked ≡ true
+unfolding cellFrom readLine-attributes step-attributes compiled-attributes namedState stateOf stateAt dotAt dotLine readLine-compiler lineEffect step-compiler compiled-compiler effects compileReply compileWords hasGlyph hasCell directiveOf finished dotsLine aliasLine glyphCondition cellCondition frontOf ifHolds readFrom find explicit aliasOf walkWithin walk aliases typedIn verdictOf wordsFor comesOut everyOne linesOf withoutCR openingOf runLines runText isBlank firstFrom firstAt wordAt sameBytes isOver lookupReply firstNoScalar pagePlan candidates choose rulesFrom3 lookup digitOf withDigit digitsFrom plainOf shortOf radixOf numberOf characterOf byteOf raiseBy raise raiseInside endsAt digitsAt insideAt cellAt dotsAt characterAt dotsOperandAt zeroFrom checkFrom checkOf lentTable wordsOf isSoundWord meaningOf definitions entriesFrom localOf standsFor afterFirst afterFurther utf8From
+marked-cases = refl

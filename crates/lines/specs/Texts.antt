@@ -1,0 +1,59 @@
+-- A text is read line by line; the first line that is refused decides. How a line changes the state is a parameter.
+use Prim.Native.Nat.{ℕ, _+_, _-_}
+use mathlib.Core.Bool.{Bool, true, false}
+use mathlib.Core.List.{List, [], _∷_}
+use lib.ListN.{length}
+use lib.Dec.{ltb}
+use Rattle.basics.specs.Choice.{pick}
+use Rattle.basics.specs.declared.Refusal.{Refusal}
+use Rattle.basics.specs.declared.Refusal.the-variants.{TextTooLong, LineTooLong, NotUtf8}
+use Rattle.unicode.specs.Utf8.{utf8}
+use Rattle.unicode.specs.declared.Validity.{Validity}
+use Rattle.unicode.specs.declared.Validity.the-variants.{Good, BadAt}
+use Rattle.lines.specs.Lines.{linesOf, withoutCR}
+use Rattle.lines.specs.Words.{isOver}
+use Rattle.lines.specs.declared.Opening.{Opening}
+use Rattle.lines.specs.declared.Opening.the-variants.{Fault, Skip, Directive}
+
+-- a text is at most 65,536 bytes, a line without its end at most 1,024
+abbrev pub textLimit : ℕ
+textLimit = 65536
+
+abbrev pub lineLimit : ℕ
+lineLimit = 1024
+
+-- what a line of UTF-8 is: whitespace only or a comment is skipped
+abbrev pub validOpening : List ℕ → Validity → Opening
+validOpening line (BadAt p) = Fault NotUtf8 (length line - p)
+validOpening line Good = pick (isOver line 0) Skip Directive
+
+-- refusals 3 and 4 come before anything else of the line, comments included
+unfoldable pub openingOf : List ℕ → Opening
+openingOf line =
+    let valid : Opening = validOpening line (utf8 line) in
+    pick (ltb lineLimit (length line)) (Fault LineTooLong (length line - lineLimit)) valid
+
+-- what a line does: it leaves a state, or is refused
+pub data Step (S : Type 0) : Type 0 where
+  next : S → Step S
+  stop : Refusal → Step S
+
+-- what a text gives: the state after its last line, or the first refusal with its line
+pub data Outcome (S : Type 0) : Type 0 where
+  accepted : S → Outcome S
+  rejected : Refusal → ℕ → Outcome S
+
+abbrev pub onStep : {S : Type 0} → Step S → ℕ → (S → Outcome S) → Outcome S
+onStep (next s) n rest = rest s
+onStep (stop refusal) n rest = rejected refusal n
+
+-- the lines that are left, the first of them the n-th
+unfoldable pub runLines : {S : Type 0} → (S → List ℕ → Step S) → List (List ℕ) → ℕ → S → Outcome S
+runLines step [] n s = accepted s
+runLines step (l ∷ ls) n s = onStep (step s (withoutCR l)) n (λ s′. runLines step ls (n + 1) s′)
+
+-- a whole text, from the state before its first line: refusal 1 has no line
+unfoldable pub runText : {S : Type 0} → (S → List ℕ → Step S) → S → List ℕ → Outcome S
+runText step s text =
+    let run = runLines step (linesOf text) 1 s in
+    pick (ltb textLimit (length text)) (rejected TextTooLong 0) run

@@ -1,0 +1,67 @@
+-- What the lookup call and the page call answer and write. Order of refusals: 2, 15, 14.
+use Prim.Native.Nat.{ℕ, _+_}
+use mathlib.Core.Bool.{Bool, true, false, _||_}
+use mathlib.Core.List.{List, [], _∷_, _++_, map}
+use lib.ListN.{length, drop}
+use lib.Dec.{ltb}
+use Rattle.basics.specs.Choice.{pick}
+use Rattle.basics.specs.Refusals.{numberOf, Reply, answered, refused, andThen}
+use Rattle.unicode.specs.Characters.{isScalar}
+use Rattle.definitions.specs.declared.Definition.{Definition}
+use Rattle.definitions.specs.Definitions.{table}
+use Rattle.table.specs.Check.{lentTable}
+use Rattle.lookup.specs.Rules.{lookup}
+use Rattle.lookup.specs.declared.Answer.{Answer}
+use Rattle.lookup.specs.declared.Looked.{Looked}
+use Rattle.lookup.specs.declared.Looked.the-variants as L
+use Rattle.lookup.specs.declared.Paged.{Paged}
+use Rattle.lookup.specs.declared.Paged.the-variants as P
+use Rattle.lookup.specs.declared.NoScalar.{NoScalar}
+use Rattle.lookup.specs.declared.NoScalar.the-variants.{Nowhere, At}
+
+-- the lookup call
+unfoldable pub lookupReply : List ℕ → ℕ → Reply Answer
+lookupReply ws c = andThen (lentTable ws) (λ ds. pick (isScalar c) (answered (lookup (table ds) c)) (refused 14 0))
+
+-- the number, place and values of each case of its answer
+abbrev pub lookedReply : Looked → Reply Answer
+lookedReply (L.Shown a) = answered a
+lookedReply (L.Refused refusal place) = refused (numberOf refusal) place
+
+-- the first character that is no scalar value, the first of the list at i
+unfoldable pub firstNoScalar : List ℕ → ℕ → NoScalar
+firstNoScalar [] i = Nowhere
+firstNoScalar (c ∷ cs) i =
+    let rest : NoScalar = firstNoScalar cs (i + 1) in
+    pick (isScalar c) rest (At i)
+
+abbrev pub unlessAt : {A : Type 0} → NoScalar → A → Reply A
+unlessAt Nowhere a = answered a
+unlessAt (At i) a = refused 14 i
+
+-- the page call, for buffers of so many bytes: the definitions that fill them, or a refusal
+unfoldable pub pagePlan : List ℕ → List ℕ → ℕ → ℕ → Reply (List Definition)
+pagePlan ws cs cells rules =
+    pick (ltb cells (length cs) || ltb rules (length cs)) (refused 2 0)
+    (andThen (lentTable ws) (λ ds. unlessAt (firstNoScalar cs 0) ds))
+
+-- its answer has no value
+abbrev pub pageReply : Reply (List Definition) → Reply (Unit {0})
+pageReply plan = andThen plan (λ ds. answered tt)
+
+abbrev pub pagedReply : Paged → Reply (Unit {0})
+pagedReply P.Filled = answered tt
+pagedReply (P.Refused refusal place) = refused (numberOf refusal) place
+
+-- new bytes at the front of a buffer; those past them stay
+abbrev pub over : List ℕ → List ℕ → List ℕ
+over new old = new ++ drop (length new) old
+
+-- the cell buffer and the rule buffer after the call, from what they held: a refusal writes nothing
+abbrev pub pageCells : Reply (List Definition) → List ℕ → List ℕ → List ℕ
+pageCells (answered ds) cs old = over (map (λ (c : ℕ). lookup (table ds) c .cell) cs) old
+pageCells (refused number place) cs old = old
+
+abbrev pub pageRules : Reply (List Definition) → List ℕ → List ℕ → List ℕ
+pageRules (answered ds) cs old = over (map (λ (c : ℕ). lookup (table ds) c .rule) cs) old
+pageRules (refused number place) cs old = old
