@@ -1,5 +1,5 @@
 -- "Each line must be UTF-8": shortest form, no surrogates, at most U+10FFFF. Bytes are read one at a time.
-use Prim.Native.Nat.{ℕ, _+_, _-_}
+use Prim.Native.Nat.{ℕ, _+_, _-_, _≤_}
 use mathlib.Core.Bool.{Bool, true, false, _&&_}
 use mathlib.Core.List.{List, [], _∷_}
 use lib.Dec.{ltb, leb, eqb}
@@ -26,7 +26,7 @@ afterFirst b i =
 -- after a further byte of a character
 unfoldable pub afterFurther : ℕ → ℕ → ℕ → ℕ → ℕ → Progress
 afterFurther left low high start b =
-    pick (leb low b && leb b high) (pick (eqb left 1) Between (Inside (left - 1) 0x80 0xBF start)) (Bad start)
+    pick (leb low b && leb b high) (pick (leb left 1) Between (Inside (left - 1) 0x80 0xBF start)) (Bad start)
 
 -- after a byte b at i
 abbrev pub afterByte : Progress → ℕ → ℕ → Progress
@@ -47,3 +47,8 @@ utf8From (b ∷ bs) i p = utf8From bs (i + 1) (afterByte p b i)
 
 abbrev pub utf8 : List ℕ → Validity
 utf8 line = utf8From line 0 Between
+
+-- the position that is answered lies within so many bytes
+abbrev pub BadWithin : Validity → ℕ → Type 0
+BadWithin Good n = Unit {0}
+BadWithin (BadAt p) n = p ≤ n
