@@ -22,18 +22,22 @@ use Rattle.compiler.specs.declared.Reading.the-variants.{Fault, Nothing,
 use Rattle.compiler.specs.declared.Front.{Front}
 use Rattle.compiler.specs.declared.Front.the-variants.{Whole, Condition}
 
--- the eight directive words
+-- the eight directive words: those of conditions, and all
+unfoldable pub conditionOf : List ℕ → Directive
+conditionOf w =
+    pick (sameBytes w (ascii "ifGlyph")) (D.IfGlyph true)
+    (pick (sameBytes w (ascii "ifNotGlyph")) (D.IfGlyph false)
+    (pick (sameBytes w (ascii "ifCell")) (D.IfCell true)
+    (pick (sameBytes w (ascii "ifNotCell")) (D.IfCell false)
+    D.Unknown)))
+
 unfoldable pub directiveOf : List ℕ → Directive
 directiveOf w =
     pick (sameBytes w (ascii "char")) (D.Define false true)
     (pick (sameBytes w (ascii "glyph")) (D.Define false false)
     (pick (sameBytes w (ascii "byte")) (D.Define true false)
     (pick (sameBytes w (ascii "alias")) D.Alias
-    (pick (sameBytes w (ascii "ifGlyph")) (D.IfGlyph true)
-    (pick (sameBytes w (ascii "ifNotGlyph")) (D.IfGlyph false)
-    (pick (sameBytes w (ascii "ifCell")) (D.IfCell true)
-    (pick (sameBytes w (ascii "ifNotCell")) (D.IfCell false)
-    D.Unknown)))))))
+    (conditionOf w))))
 
 -- after the last operand: nothing, or a word that begins with `#`
 unfoldable pub finished : List ℕ → ℕ → Reading → Reading

@@ -1,5 +1,6 @@
 -- Definitions in order of effect: what a character means, its explicit cell, its alias walk, what a cell types.
-use Prim.Native.Nat.{ℕ, zero, suc, _+_}
+use Prim.Native.Nat.{ℕ, zero, suc, _+_, _≤_}
+use mathlib.Core.Path.{_≡_}
 use mathlib.Core.Bool.{Bool, true, false}
 use mathlib.Core.List.{List, [], _∷_}
 use lib.ListN.{length}
@@ -78,6 +79,11 @@ isAlias (Alias target) = 1
 unfoldable pub aliases : List Definition → ℕ
 aliases [] = 0
 aliases (d ∷ ds) = isAlias (d .meaning) + aliases ds
+
+-- "the links followed equal the length of the alias walk and never exceed the table's aliases": no walk is cut short
+pub record WholeWalk (ds : List Definition) (c : ℕ) : Type 0 where
+  pub ends : aliasOf (table ds) (walk (table ds) c .end) ≡ M.Nothing
+  pub within : walk (table ds) c .links ≤ aliases ds
 
 -- whether a meaning is that of a `char` line with that cell
 abbrev pub types : Meaning → ℕ → Bool

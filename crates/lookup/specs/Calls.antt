@@ -8,7 +8,7 @@ use Rattle.basics.specs.Choice.{pick}
 use Rattle.basics.specs.Refusals.{numberOf, Reply, answered, refused, andThen}
 use Rattle.unicode.specs.Characters.{isScalar}
 use Rattle.definitions.specs.declared.Definition.{Definition}
-use Rattle.definitions.specs.Definitions.{table}
+use Rattle.definitions.specs.Definitions.{table, WholeWalk}
 use Rattle.table.specs.Check.{lentTable}
 use Rattle.lookup.specs.Rules.{lookup}
 use Rattle.lookup.specs.declared.Answer.{Answer}
@@ -27,6 +27,11 @@ lookupReply ws c = andThen (lentTable ws) (λ ds. pick (isScalar c) (answered (l
 abbrev pub lookedReply : Looked → Reply Answer
 lookedReply (L.Shown a) = answered a
 lookedReply (L.Refused refusal place) = refused (numberOf refusal) place
+
+-- what is promised of the links beside: on a compiled table no walk is cut short
+abbrev pub LentWhole : Reply (List Definition) → ℕ → Type 0
+LentWhole (answered ds) c = WholeWalk ds c
+LentWhole (refused number place) c = Unit {0}
 
 -- the first character that is no scalar value, the first of the list at i
 unfoldable pub firstNoScalar : List ℕ → ℕ → NoScalar
