@@ -26,7 +26,7 @@ use Rattle.definitions.specs.declared.Walk.{Walk}
 use Rattle.definitions.specs.Definitions.{find, targetOf, table, aliasOf, walk, isAlias, aliases}
 use Rattle.definitions.specs.Effects.{isFound, isDefined, closesLoop, definitionLimit, verdictOf}
 use Rattle.definitions.proofs.Finds.{orElse, orElse-nothing, find-append, not-found, found-kept}
-use Rattle.definitions.proofs.Walks.{Reaches, Here, Link, Walks, walk-whole, links-kept, Ending, none-ending, put-at, put-extends, put-ending, put-returns, In, First, Later, Covers, walk-bound}
+use Rattle.definitions.proofs.Walks.{Reaches, Here, Link, Walks, walk-whole, links-kept, Ending, none-ending, put, put-at, put-extends, put-none, put-ending, put-returns, In, First, Later, Covers, walk-bound}
 
 -- ---- one definition
 
@@ -129,16 +129,20 @@ alias-fresh : (ds : List Definition) (c : ℕ) → find ds c ≡ Nothing → ali
 unfolding aliasOf
 alias-fresh ds c e = rw e
 
--- one definition more, for a character without one
-alias-new : (ds : List Definition) (d : Definition) → find ds (d .character) ≡ Nothing → (c : ℕ)
-    → aliasOf (table (ds ++ d ∷ [])) c ≡ pick (eqb (d .character) c) (targetOf (Is (d .meaning))) (aliasOf (table ds) c)
+alias-new-at : (ds : List Definition) (d : Definition) → find ds (d .character) ≡ Nothing → (c : ℕ)
+    → aliasOf (table (ds ++ d ∷ [])) c ≡ put (aliasOf (table ds)) (d .character) (targetOf (Is (d .meaning))) c
 unfolding aliasOf find
-alias-new ds d f c = rw find-append (go (eqb (d .character) c) refl)
+alias-new-at ds d f c = rw find-append (go (eqb (d .character) c) refl)
   where
     go : (b : Bool) → eqb (d .character) c ≡ b
         → targetOf (orElse (find ds c) (pick b (Is (d .meaning)) Nothing)) ≡ pick b (targetOf (Is (d .meaning))) (targetOf (find ds c))
     go true p = rw (← eqb-true (d .character) c p, f)
     go false p = rw orElse-nothing
+
+-- one definition more, for a character without one
+alias-new : (ds : List Definition) (d : Definition) → find ds (d .character) ≡ Nothing
+    → aliasOf (table (ds ++ d ∷ [])) ≡ put (aliasOf (table ds)) (d .character) (targetOf (Is (d .meaning)))
+alias-new ds d f = fun-ext (alias-new-at ds d f)
 
 -- ---- a whole walk has no more links than there are aliases
 
@@ -202,20 +206,20 @@ AllEnd ds = Ending (aliasOf (table ds))
 none-end : AllEnd []
 none-end = rw (fun-ext alias-none) none-ending
 
-pick-none : (b : Bool) {o : Maybe} → (b ≡ true → o ≡ M.Nothing) → pick b M.Nothing o ≡ o
-pick-none true h = sym (h refl)
-pick-none false h = refl
+-- the walk of a target, if there is one, comes to x
+abbrev comesTo : List Definition → Maybe → ℕ → Bool
+comesTo ds o x = ifCharacter o false (λ target. eqb (walk (table ds) target .end) x)
 
-put-end : (ds : List Definition) (x : ℕ) (o : Maybe) → AllEnd ds → aliasOf (table ds) x ≡ M.Nothing
-    → ifCharacter o false (λ target. eqb (walk (table ds) target .end) x) ≡ false → Ending (λ c. pick (eqb x c) o (aliasOf (table ds) c))
-put-end ds x M.Nothing v free e =
-    rw (fun-ext {g = aliasOf (table ds)} (λ c. pick-none (eqb x c) (λ p. rw (← eqb-true x c p) free))) v
+put-end : (ds : List Definition) (x : ℕ) (o : Maybe) → AllEnd ds → aliasOf (table ds) x ≡ M.Nothing → comesTo ds o x ≡ false
+    → Ending (put (aliasOf (table ds)) x o)
+put-end ds x M.Nothing v free e = rw (put-none (aliasOf (table ds)) x free) v
 put-end ds x (M.Character t) v free e =
-    put-ending x t free v (λ q. eqb-false (walk (table ds) t .end) x e (ap (λ (w : Walk). w .end) (walk-is ds (v t .walks)) ∙ q))
+    put-ending (aliasOf (table ds)) x free t v (λ q. eqb-false (walk (table ds) t .end) x e (ap (λ (w : Walk). w .end) (walk-is ds (v t .walks)) ∙ q))
 
 end-new : (ds : List Definition) (d : Definition) → AllEnd ds → Admissible ds d → AllEnd (ds ++ d ∷ [])
 end-new ds d v a =
-    rw (fun-ext (alias-new ds d (a .fresh))) (put-end ds (d .character) (targetOf (Is (d .meaning))) v (alias-fresh ds (d .character) (a .fresh)) (a .opens))
+    rw (alias-new ds d (a .fresh))
+    (put-end ds (d .character) (targetOf (Is (d .meaning))) v (alias-fresh ds (d .character) (a .fresh)) (a .opens))
 
 end-append : (rs ds : List Definition) → AllEnd ds → Admits ds rs → AllEnd (ds ++ rs)
 end-append [] ds v h = rw append-nil v
@@ -247,25 +251,28 @@ no-link : {alias : ℕ → Maybe} {c e : ℕ} (k : ℕ) → 1 ≤ k → alias c 
 no-link zero l h r = omega arith
 no-link (suc k) l h (Link g r) = let z : _≡_ {A = ℕ} 0 1 = cc in omega arith
 
-module _ (ds : List Definition) (h : Admits [] ds) (x : ℕ) (fresh : find ds x ≡ Nothing) where
-  returns-from : (o : Maybe) → ifCharacter o false (λ target. eqb (walk (table ds) target .end) x) ≡ true
-      → (k : ℕ) × (1 ≤ k) × Reaches (λ c. pick (eqb x c) o (aliasOf (table ds) c)) x k x
-  returns-from M.Nothing e = absurd (let z : _≡_ {A = ℕ} 0 1 = cc in omega arith)
-  returns-from (M.Character t) e =
+module _ (ds : List Definition) (h : Admits [] ds) (x : ℕ) (free : aliasOf (table ds) x ≡ M.Nothing) where
+  comes-returns : (o : Maybe) → comesTo ds o x ≡ true → (k : ℕ) × (1 ≤ k) × Reaches (put (aliasOf (table ds)) x o) x k x
+  comes-returns M.Nothing e = absurd (let z : _≡_ {A = ℕ} 0 1 = cc in omega arith)
+  comes-returns (M.Character t) e =
       let way = rw (eqb-true (walk (table ds) t .end) x e) at (walk-walks ds h t .way) in
-      let free = alias-fresh ds x fresh in
-      (suc (walk (table ds) t .links), omega arith, Link (put-at (aliasOf (table ds)) x t) (links-kept (put-extends (aliasOf (table ds)) x t free) way))
+      (
+        suc (walk (table ds) t .links),
+        omega arith,
+        Link (put-at (aliasOf (table ds)) x (M.Character t)) (links-kept (put-extends (aliasOf (table ds)) x free (M.Character t)) way),
+      )
 
-  returns-to : (o : Maybe) → (k : ℕ) × (1 ≤ k) × Reaches (λ c. pick (eqb x c) o (aliasOf (table ds) c)) x k x
-      → ifCharacter o false (λ target. eqb (walk (table ds) target .end) x) ≡ true
-  returns-to M.Nothing (k, l, r) = absurd (no-link k l (rw (eq-eqb x x refl)) r)
-  returns-to (M.Character t) (zero, l, r) = absurd (omega arith)
-  returns-to (M.Character t) (suc k, l, r) =
+  returns-comes : (o : Maybe) → (k : ℕ) × (1 ≤ k) × Reaches (put (aliasOf (table ds)) x o) x k x → comesTo ds o x ≡ true
+  returns-comes M.Nothing (k, l, r) = absurd (no-link k l (put-at (aliasOf (table ds)) x M.Nothing) r)
+  returns-comes (M.Character t) (zero, l, r) = absurd (omega arith)
+  returns-comes (M.Character t) (suc k, l, r) =
       let v = all-end ds h in
-      eq-eqb (walk (table ds) t .end) x (ap (λ (w : Walk). w .end) (walk-is ds (v t .walks)) ∙ put-returns x t (alias-fresh ds x fresh) v k r)
+      eq-eqb (walk (table ds) t .end) x (ap (λ (w : Walk). w .end) (walk-is ds (v t .walks)) ∙ put-returns (aliasOf (table ds)) x free t v k r)
 
 -- a definition of a character without one closes a loop exactly if with it a walk from that character comes back there
 pub loop-returns : (ds : List Definition) (d : Definition) → Admits [] ds → find ds (d .character) ≡ Nothing
     → (closesLoop ds d ≡ true) ↔ Returns (ds ++ d ∷ []) (d .character)
 loop-returns ds d h fresh =
-    rw (fun-ext (alias-new ds d fresh)) (returns-from ds h (d .character) fresh (targetOf (Is (d .meaning))), returns-to ds h (d .character) fresh (targetOf (Is (d .meaning))))
+    let free = alias-fresh ds (d .character) fresh in
+    let target = targetOf (Is (d .meaning)) in
+    rw (alias-new ds d fresh) (comes-returns ds h (d .character) free target, returns-comes ds h (d .character) free target)

@@ -1,7 +1,7 @@
 -- Alias walks over any function from a character to its alias target: links as a relation, whole walks, what the walk
 -- within a budget answers, one more alias, the aliases that a walk comes back over, and a bound on its links by counting.
 use Prim.Native.Nat.{ℕ, zero, suc, _+_, _≤_, _<_}
-use mathlib.Core.Path.{_≡_, refl, sym, ap, _∙_, subst}
+use mathlib.Core.Path.{_≡_, refl, sym, ap, _∙_, subst, fun-ext}
 use mathlib.Core.Bool.{Bool, true, false}
 use mathlib.Core.List.{List, [], _∷_}
 use native.Mathlib.Nat.{zero-add, suc-add}
@@ -86,68 +86,77 @@ Ending alias = (c : ℕ) → Walked alias c
 pub none-ending : Ending (λ c. M.Nothing)
 none-ending c = record { end = c; links = 0; walks = record { way = Here; ended = refl } }
 
--- one alias more, from x to t
-abbrev pub put : (ℕ → Maybe) → ℕ → ℕ → ℕ → Maybe
-put alias x t c = pick (eqb x c) (M.Character t) (alias c)
+-- what x has put to another: an alias, or none
+abbrev pub put : (ℕ → Maybe) → ℕ → Maybe → ℕ → Maybe
+put alias x o c = pick (eqb x c) o (alias c)
 
-pub put-at : (alias : ℕ → Maybe) (x t : ℕ) → put alias x t x ≡ M.Character t
-put-at alias x t = rw (eq-eqb x x refl)
+pub put-at : (alias : ℕ → Maybe) (x : ℕ) (o : Maybe) → put alias x o x ≡ o
+put-at alias x o = rw (eq-eqb x x refl)
 
-pub put-extends : (alias : ℕ → Maybe) (x t : ℕ) → alias x ≡ M.Nothing → Extends alias (put alias x t)
-put-extends alias x t free c u g = go (eqb x c) refl
-  where
-    go : (b : Bool) → eqb x c ≡ b → pick b (M.Character t) (alias c) ≡ M.Character u
-    go true p = let q = eqb-true x c p in cc (ap alias q)
-    go false p = g
-
-put-none : (alias : ℕ → Maybe) (x t e : ℕ) → (e ≡ x → ⊥) → alias e ≡ M.Nothing → put alias x t e ≡ M.Nothing
-put-none alias x t e other h = rw (ne-eqb x e (λ q. other (sym q))) h
+put-other : (alias : ℕ → Maybe) (x : ℕ) (o : Maybe) (c : ℕ) → (c ≡ x → ⊥) → put alias x o c ≡ alias c
+put-other alias x o c other = rw (ne-eqb x c (λ q. other (sym q)))
 
 -- x has no alias yet
-module _ {alias : ℕ → Maybe} (x t : ℕ) (free : alias x ≡ M.Nothing) where
-  -- a walk that does not end at x stays
-  put-walk : {c e k : ℕ} → Walks alias c e k → (e ≡ x → ⊥) → Walks (put alias x t) c e k
-  put-walk {e = e} w other = walk-kept (put-extends alias x t free) (put-none alias x t e other (w .ended)) w
-
-  -- that of x goes on with the walk of t
-  put-walk-on : {e k : ℕ} → Walks alias t e k → (e ≡ x → ⊥) → Walks (put alias x t) x e (suc k)
-  put-walk-on w other = let v = put-walk w other in record { way = Link (put-at alias x t) (v .way); ended = v .ended }
-
-  -- every walk still ends with an alias from x to t, if the walk of t does not end at x
-  pub put-ending : (v : Ending alias) → (v t .end ≡ x → ⊥) → Ending (put alias x t)
-  put-ending v opens c = go (eqb (v c .end) x) refl
+module _ (alias : ℕ → Maybe) (x : ℕ) (free : alias x ≡ M.Nothing) where
+  pub put-extends : (o : Maybe) → Extends alias (put alias x o)
+  put-extends o c u g = go (eqb x c) refl
     where
-      go : (b : Bool) → eqb (v c .end) x ≡ b → Walked (put alias x t) c
-      go true p =
-          let on = put-walk-on (v t .walks) opens in
-          let to-x = rw (eqb-true (v c .end) x p) at (v c .walks .way) in
-          record {
-            end = v t .end;
-            links = v c .links + suc (v t .links);
-            walks = record { way = links-join (links-kept (put-extends alias x t free) to-x) (on .way); ended = on .ended };
-          }
-      go false p = record { end = v c .end; links = v c .links; walks = put-walk (v c .walks) (eqb-false (v c .end) x p) }
+      go : (b : Bool) → eqb x c ≡ b → pick b o (alias c) ≡ M.Character u
+      go true p = let q = eqb-true x c p in cc (ap alias q)
+      go false p = g
 
-  -- where x then comes back to x, the walk of t ended at x
-  pub put-returns : (v : Ending alias) (k : ℕ) → Reaches (put alias x t) x (suc k) x → v t .end ≡ x
-  put-returns v k r = go (eqb (v t .end) x) refl
+  pub put-none : put alias x M.Nothing ≡ alias
+  put-none = fun-ext {g = alias} (λ c. go c (eqb x c) refl)
     where
-      go : (b : Bool) → eqb (v t .end) x ≡ b → v t .end ≡ x
-      go true p = eqb-true (v t .end) x p
-      go false p = absurd (no-return (put-walk-on (v t .walks) (eqb-false (v t .end) x p)) r)
+      go : (c : ℕ) (b : Bool) → eqb x c ≡ b → pick b M.Nothing (alias c) ≡ alias c
+      go c true p = let q = eqb-true x c p in cc (ap alias q)
+      go c false p = refl
 
--- without the alias of x
-abbrev cut : (ℕ → Maybe) → ℕ → ℕ → Maybe
-cut alias x c = pick (eqb x c) M.Nothing (alias c)
+  module _ (t : ℕ) where
+    -- a walk that does not end at x stays where x gets the alias t
+    put-walk : {c e k : ℕ} → Walks alias c e k → (e ≡ x → ⊥) → Walks (put alias x (M.Character t)) c e k
+    put-walk {e = e} w other = walk-kept (put-extends (M.Character t)) (put-other alias x (M.Character t) e other ∙ w .ended) w
 
-cut-none : (b : Bool) {o : Maybe} → o ≡ M.Nothing → pick b M.Nothing o ≡ M.Nothing
-cut-none true h = refl
-cut-none false h = h
+    -- that of x goes on with the walk of t
+    put-walk-on : {e k : ℕ} → Walks alias t e k → (e ≡ x → ⊥) → Walks (put alias x (M.Character t)) x e (suc k)
+    put-walk-on w other =
+        let v = put-walk w other in
+        record { way = Link (put-at alias x (M.Character t)) (v .way); ended = v .ended }
+
+    -- every walk still ends, if the walk of t does not end at x
+    pub put-ending : (v : Ending alias) → (v t .end ≡ x → ⊥) → Ending (put alias x (M.Character t))
+    put-ending v opens c = go (eqb (v c .end) x) refl
+      where
+        go : (b : Bool) → eqb (v c .end) x ≡ b → Walked (put alias x (M.Character t)) c
+        go true p =
+            let on = put-walk-on (v t .walks) opens in
+            let to-x = rw (eqb-true (v c .end) x p) at (v c .walks .way) in
+            record {
+              end = v t .end;
+              links = v c .links + suc (v t .links);
+              walks = record { way = links-join (links-kept (put-extends (M.Character t)) to-x) (on .way); ended = on .ended };
+            }
+        go false p = record { end = v c .end; links = v c .links; walks = put-walk (v c .walks) (eqb-false (v c .end) x p) }
+
+    -- where x then comes back to x, the walk of t ended at x
+    pub put-returns : (v : Ending alias) (k : ℕ) → Reaches (put alias x (M.Character t)) x (suc k) x → v t .end ≡ x
+    put-returns v k r = go (eqb (v t .end) x) refl
+      where
+        go : (b : Bool) → eqb (v t .end) x ≡ b → v t .end ≡ x
+        go true p = eqb-true (v t .end) x p
+        go false p = absurd (no-return (put-walk-on (v t .walks) (eqb-false (v t .end) x p)) r)
+
+put-nothing : (alias : ℕ → Maybe) (x c : ℕ) → alias c ≡ M.Nothing → put alias x M.Nothing c ≡ M.Nothing
+put-nothing alias x c h = go (eqb x c)
+  where
+    go : (b : Bool) → pick b M.Nothing (alias c) ≡ M.Nothing
+    go true = refl
+    go false = h
 
 -- a walk that is shorter than that of x does not come by x
-links-cut : {alias : ℕ → Maybe} {c e k x y m : ℕ} → Walks alias x y m → k < m → alias e ≡ M.Nothing → Reaches alias c k e → Reaches (cut alias x) c k e
-links-cut z l h Here = Here
-links-cut {alias} {x = x} {y = y} {m = m} z l h (Link {c = c} {t = t} g r) = Link {c = c} {t = t} (rw (ne-eqb x c other) g) (links-cut z (omega arith) h r)
+links-without : {alias : ℕ → Maybe} {c e k x y m : ℕ} → Walks alias x y m → k < m → alias e ≡ M.Nothing → Reaches alias c k e → Reaches (put alias x M.Nothing) c k e
+links-without z l h Here = Here
+links-without {alias} {x = x} {y = y} {m = m} z l h (Link {c = c} {t = t} g r) = Link {c = c} {t = t} (rw (ne-eqb x c other) g) (links-without z (omega arith) h r)
   where
     other : x ≡ c → ⊥
     other p =
@@ -193,8 +202,8 @@ without-in x y n (Later {x = z} h) = pick-in (eqb x z) z (without-in x y n h)
 abbrev pub Covers : (ℕ → Maybe) → List ℕ → Type 0
 Covers alias xs = (c t : ℕ) → alias c ≡ M.Character t → In c xs
 
-covers-cut : (alias : ℕ → Maybe) (x : ℕ) (xs : List ℕ) → Covers alias xs → Covers (cut alias x) (without x xs)
-covers-cut alias x xs h c t = go (eqb x c) refl
+covers-without : (alias : ℕ → Maybe) (x : ℕ) (xs : List ℕ) → Covers alias xs → Covers (put alias x M.Nothing) (without x xs)
+covers-without alias x xs h c t = go (eqb x c) refl
   where
     go : (b : Bool) → eqb x c ≡ b → pick b M.Nothing (alias c) ≡ M.Character t → In c (without x xs)
     go true p e = absurd (let z : _≡_ {A = ℕ} 0 1 = cc in omega arith)
@@ -203,7 +212,7 @@ covers-cut alias x xs h c t = go (eqb x c) refl
 links-bound : (k : ℕ) {alias : ℕ → Maybe} {c e : ℕ} → Reaches alias c k e → alias e ≡ M.Nothing → (xs : List ℕ) → Covers alias xs → k ≤ length xs
 links-bound zero r h xs all = omega arith
 links-bound (suc k) {alias} {c} {e} (Link {t = t} g r) h xs all =
-    let rest = links-bound k (links-cut (record { way = Link g r; ended = h }) (omega arith) h r) (cut-none (eqb c e) h) (without c xs) (covers-cut alias c xs all) in
+    let rest = links-bound k (links-without (record { way = Link g r; ended = h }) (omega arith) h r) (put-nothing alias c e h) (without c xs) (covers-without alias c xs all) in
     omega (arith, without-lt c (all c t g))
 
 -- a whole walk has no more links than there are characters with an alias
