@@ -13,20 +13,17 @@ use borrow.Author.Tests.{eqb-true, eqb-false, eq-eqb, ne-eqb, leb-false, lt-leb}
 use Rattle.basics.specs.Choice.{pick, ifCharacter}
 use Rattle.basics.specs.declared.Maybe.{Maybe}
 use Rattle.basics.specs.declared.Maybe.the-variants as M
-use Rattle.basics.specs.declared.Refusal.{Refusal}
 use Rattle.basics.specs.declared.Refusal.the-variants.{AlreadyDefined, AliasLoop, TableFull}
 use Rattle.definitions.specs.declared.Meaning.{Meaning}
 use Rattle.definitions.specs.declared.Meaning.the-variants.{Typed, Shown, Alias}
 use Rattle.definitions.specs.declared.Definition.{Definition}
-use Rattle.definitions.specs.declared.Found.{Found}
 use Rattle.definitions.specs.declared.Found.the-variants.{Nothing, Is}
-use Rattle.definitions.specs.declared.Verdict.{Verdict}
 use Rattle.definitions.specs.declared.Verdict.the-variants.{Admitted, Refused}
 use Rattle.definitions.specs.declared.Walk.{Walk}
 use Rattle.definitions.specs.Definitions.{find, targetOf, table, aliasOf, walk, isAlias, aliases}
-use Rattle.definitions.specs.Effects.{isFound, isDefined, closesLoop, definitionLimit, verdictOf}
+use Rattle.definitions.specs.Effects.{isDefined, closesLoop, definitionLimit, verdictOf}
 use Rattle.definitions.proofs.Finds.{orElse, orElse-nothing, find-append, not-found, found-kept}
-use Rattle.definitions.proofs.Walks.{Reaches, Here, Link, Walks, walk-whole, links-kept, Ending, none-ending, put, put-at, put-extends, put-none, put-ending, put-returns, In, First, Later, Covers, walk-bound}
+use Rattle.definitions.proofs.Walks.{Reaches, Link, Walks, walk-whole, links-kept, Ending, none-ending, put, put-at, put-extends, put-none, put-ending, put-returns, In, First, Later, Covers, walk-bound}
 
 -- ---- one definition
 
@@ -255,8 +252,7 @@ module _ (ds : List Definition) (h : Admits [] ds) (x : ℕ) (free : aliasOf (ta
   comes-returns : (o : Maybe) → comesTo ds o x ≡ true → (k : ℕ) × (1 ≤ k) × Reaches (put (aliasOf (table ds)) x o) x k x
   comes-returns M.Nothing e = absurd (let z : _≡_ {A = ℕ} 0 1 = cc in omega arith)
   comes-returns (M.Character t) e =
-      let way = rw (eqb-true (walk (table ds) t .end) x e) at (walk-walks ds h t .way) in
-      (
+      let way = rw (eqb-true (walk (table ds) t .end) x e) at (walk-walks ds h t .way) in (
         suc (walk (table ds) t .links),
         omega arith,
         Link (put-at (aliasOf (table ds)) x (M.Character t)) (links-kept (put-extends (aliasOf (table ds)) x free (M.Character t)) way),

@@ -13,7 +13,6 @@ use borrow.Author.Tests.{eqb-true, eqb-false, eq-eqb, ne-eqb}
 use Rattle.basics.specs.Choice.{pick}
 use Rattle.basics.specs.declared.Maybe.{Maybe}
 use Rattle.basics.specs.declared.Maybe.the-variants as M
-use Rattle.definitions.specs.declared.Walk.{Walk}
 use Rattle.definitions.specs.Definitions.{walkWithin}
 
 -- k alias links lead from c to e
@@ -212,7 +211,8 @@ covers-without alias x xs h c t = go (eqb x c) refl
 links-bound : (k : ℕ) {alias : ℕ → Maybe} {c e : ℕ} → Reaches alias c k e → alias e ≡ M.Nothing → (xs : List ℕ) → Covers alias xs → k ≤ length xs
 links-bound zero r h xs all = omega arith
 links-bound (suc k) {alias} {c} {e} (Link {t = t} g r) h xs all =
-    let rest = links-bound k (links-without (record { way = Link g r; ended = h }) (omega arith) h r) (put-nothing alias c e h) (without c xs) (covers-without alias c xs all) in
+    let past = links-without (record { way = Link g r; ended = h }) (omega arith) h r in
+    let rest = links-bound k past (put-nothing alias c e h) (without c xs) (covers-without alias c xs all) in
     omega (arith, without-lt c (all c t g))
 
 -- a whole walk has no more links than there are characters with an alias

@@ -1,16 +1,16 @@
 -- A table and one that keeps all that it has: the rule that answers falls or stays, the same rule gives the same cell, and the
 -- answer is the same where both have the same for all that it goes by. First of any two tables, then of definitions that follow.
-use Prim.Native.Nat.{ℕ, zero, suc, _+_, _≤_, _<_}
-use mathlib.Core.Path.{_≡_, refl, sym, ap, _∙_}
+use Prim.Native.Nat.{ℕ, _+_, _≤_}
+use mathlib.Core.Path.{_≡_, refl}
 use mathlib.Core.Bool.{Bool, true, false}
 use mathlib.Core.List.{List, [], _∷_, _++_}
 use native.Mathlib.Nat.{le-refl}
 use native.Mathlib.Omega.{arith}
 use lib.Dec.{eqb}
-use Rattle.basics.specs.Choice.{pick, ifCharacter}
+use Rattle.basics.specs.Choice.{pick}
 use Rattle.basics.specs.declared.Maybe.{Maybe}
 use Rattle.basics.specs.declared.Maybe.the-variants as M
-use Rattle.unicode.specs.Characters.{isBraille, isPrivate, localOf, baseOf, standInOf}
+use Rattle.unicode.specs.Characters.{isBraille, localOf, baseOf, standInOf}
 use Rattle.definitions.specs.declared.Meaning.{Meaning}
 use Rattle.definitions.specs.declared.Meaning.the-variants.{Typed, Shown, Alias}
 use Rattle.definitions.specs.declared.Definition.{Definition}
@@ -25,7 +25,7 @@ use Rattle.definitions.proofs.Finds.{found-kept, found-same}
 use Rattle.definitions.proofs.Walks.{Walks, walk-unique, walk-kept}
 use Rattle.definitions.proofs.Admission.{Admits, admits-first, walk-walks}
 use Rattle.lookup.specs.declared.Answer.{Answer}
-use Rattle.lookup.specs.Rules.{explicitOf, endCell, candidates, choose, rulesFrom3, passed, lookup}
+use Rattle.lookup.specs.Rules.{explicitOf, endCell, candidates, choose, rulesFrom3, lookup}
 
 -- the second answer's rule is the first's or smaller; where it is the same, so is the cell
 pub record NotSpoiled (before after : Answer) : Type 0 where
@@ -165,7 +165,8 @@ module _ (T G : Table) (keep : (c : ℕ) (m : Meaning) → T .found c ≡ Is m �
   same-candidates : (c : ℕ) → Each T (λ x. G .found x ≡ T .found x) c → candidates G c ≡ candidates T c
   unfolding candidates
   same-candidates c h =
-      rw (same-walk c (h .end), same-cell c (h .own), same-cell (walk T c .end) (h .end), same-other (baseOf c) (h .base), same-other (standInOf c) (h .standIn), same-cell 0xFFFD (h .replacement), same-cell 0x3F (h .question))
+      rw (same-walk c (h .end), same-cell c (h .own), same-cell (walk T c .end) (h .end))
+      (rw (same-other (baseOf c) (h .base), same-other (standInOf c) (h .standIn), same-cell 0xFFFD (h .replacement), same-cell 0x3F (h .question)))
 
   same-rules : (c : ℕ) → Each T (λ x. G .found x ≡ T .found x) c → rulesFrom3 G c ≡ rulesFrom3 T c
   unfolding rulesFrom3

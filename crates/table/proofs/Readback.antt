@@ -1,7 +1,7 @@
 -- The words of a table are read back as its definitions, and words that pass the check are a table: definitions in range, the
 -- words of one meaning, of a whole image, and what is known of a lent slice that is sound.
 use Prim.Native.Nat.{ℕ, zero, suc, _+_, _*_, _-_, _/_, _%_, _≤_, _<_}
-use mathlib.Core.Path.{_≡_, refl, sym, ap, _∙_, subst}
+use mathlib.Core.Path.{_≡_, refl, sym, ap, _∙_}
 use mathlib.Core.Bool.{Bool, true, false, not, _&&_, _||_}
 use mathlib.Core.List.{List, [], _∷_, _++_, append-assoc, append-nil}
 use native.Mathlib.Omega.{arith}
@@ -10,19 +10,17 @@ use lib.ListN.{length, take, drop, replicate, length-append, length-take, length
 use lib.Seq.{append-snoc, take-at}
 use borrow.Author.Tests.{eqb-true, ne-eqb, leb-true, le-leb, ltb-true, le-ltb, not-true}
 use Rattle.basics.specs.Choice.{pick}
-use Rattle.basics.specs.Refusals.{Reply, answered, refused}
+use Rattle.basics.specs.Refusals.{answered}
 use Rattle.unicode.specs.Characters.{isScalar}
 use Rattle.definitions.specs.declared.Meaning.{Meaning}
 use Rattle.definitions.specs.declared.Meaning.the-variants.{Typed, Shown, Alias}
 use Rattle.definitions.specs.declared.Definition.{Definition}
-use Rattle.definitions.specs.declared.Verdict.the-variants.{Admitted, Refused}
 use Rattle.definitions.specs.Definitions.{find}
-use Rattle.definitions.specs.Effects.{isDefined, closesLoop, verdictOf}
+use Rattle.definitions.specs.Effects.{isDefined, closesLoop}
 use Rattle.definitions.proofs.Finds.{not-found}
 use Rattle.definitions.proofs.Admission.{Admissible, admissible, admitted, Admits, admits-limit}
-use Rattle.table.specs.Words.{tableWords, kindUnit, wordOf, wordsOf, imageOf, isSoundNumber, isSoundWord, meaningOf, definitionOf, definitions}
-use Rattle.table.specs.Check.{isZeroPair, isSoundPair, isFresh, zeroFrom, checkFrom, checkOf, checkedTable, lentTable}
-use Rattle.table.specs.declared.Checked.{Checked}
+use Rattle.table.specs.Words.{tableWords, kindUnit, wordOf, wordsOf, imageOf, isSoundWord, meaningOf, definitionOf, definitions}
+use Rattle.table.specs.Check.{isZeroPair, isSoundPair, isFresh, zeroFrom, checkFrom, checkOf, lentTable}
 use Rattle.table.specs.declared.Checked.the-variants.{Sound, FaultAt}
 
 -- ---- numbers in range
@@ -65,41 +63,31 @@ scalar-small c = go (ltb c 0xD800) refl
 
 -- ---- one meaning as a word
 
+-- the kind and the number of a second word
+module _ (kind number : ℕ) (small : number < kindUnit) where
+  pub kind-back : (kind * kindUnit + number) / kindUnit ≡ kind
+  kind-back = omega arith
+
+  pub number-back : (kind * kindUnit + number) % kindUnit ≡ number
+  number-back = omega arith
+
+pub dots-back : (kind dots : ℕ) → dots ≤ 255 → (kind * kindUnit + dots) % 256 ≡ dots
+dots-back kind dots l = omega arith
+
+dots-small : (dots : ℕ) → leb dots 255 ≡ true → dots < kindUnit
+dots-small dots e = omega (arith, leb-true dots 255 e)
+
 pub meaning-back : (m : Meaning) → isNumberInRange m ≡ true → meaningOf (wordOf m) ≡ m
 unfolding meaningOf
-meaning-back (Typed dots) e =
-    let l = leb-true dots 255 e in
-    let p : (16777216 + dots) / 16777216 ≡ 1 = omega arith in
-    let q : (16777216 + dots) % 256 ≡ dots = omega arith in
-    rw (p, q)
-meaning-back (Shown dots) e =
-    let l = leb-true dots 255 e in
-    let p : (33554432 + dots) / 16777216 ≡ 2 = omega arith in
-    let q : (33554432 + dots) % 256 ≡ dots = omega arith in
-    rw (p, q)
-meaning-back (Alias target) e =
-    let l = scalar-small target e in
-    let p : (50331648 + target) / 16777216 ≡ 3 = omega arith in
-    let q : (50331648 + target) % 16777216 ≡ target = omega arith in
-    rw (p, q)
+meaning-back (Typed dots) e = rw (kind-back 1 dots (dots-small dots e), dots-back 1 dots (leb-true dots 255 e))
+meaning-back (Shown dots) e = rw (kind-back 2 dots (dots-small dots e), dots-back 2 dots (leb-true dots 255 e))
+meaning-back (Alias target) e = rw (kind-back 3 target (scalar-small target e), number-back 3 target (scalar-small target e))
 
 pub word-sound : (m : Meaning) → isNumberInRange m ≡ true → isSoundWord (wordOf m) ≡ true
 unfolding isSoundWord
-word-sound (Typed dots) e =
-    let l = leb-true dots 255 e in
-    let p : (16777216 + dots) / 16777216 ≡ 1 = omega arith in
-    let q : (16777216 + dots) % 16777216 ≡ dots = omega arith in
-    rw (p, q) e
-word-sound (Shown dots) e =
-    let l = leb-true dots 255 e in
-    let p : (33554432 + dots) / 16777216 ≡ 2 = omega arith in
-    let q : (33554432 + dots) % 16777216 ≡ dots = omega arith in
-    rw (p, q) e
-word-sound (Alias target) e =
-    let l = scalar-small target e in
-    let p : (50331648 + target) / 16777216 ≡ 3 = omega arith in
-    let q : (50331648 + target) % 16777216 ≡ target = omega arith in
-    rw (p, q) e
+word-sound (Typed dots) e = rw (kind-back 1 dots (dots-small dots e), number-back 1 dots (dots-small dots e)) e
+word-sound (Shown dots) e = rw (kind-back 2 dots (dots-small dots e), number-back 2 dots (dots-small dots e)) e
+word-sound (Alias target) e = rw (kind-back 3 target (scalar-small target e), number-back 3 target (scalar-small target e)) e
 
 pub word-not-zero : (m : Meaning) → eqb (wordOf m) 0 ≡ false
 word-not-zero (Typed dots) = ne-eqb (16777216 + dots) 0 (λ q. omega arith)
@@ -136,7 +124,8 @@ words-append (d ∷ xs) ys = rw (words-append xs ys)
 -- an image has 2,048 words
 pub image-length : (ds : List Definition) → Admits [] ds → length (imageOf ds) ≡ tableWords
 image-length ds h =
-    omega (arith, admits-limit ds h, length-append (wordsOf ds) (replicate (tableWords - 2 * length ds) 0), words-length ds, length-replicate {A = ℕ} (tableWords - 2 * length ds) 0)
+    let zeros = length-replicate {A = ℕ} (tableWords - 2 * length ds) 0 in
+    omega (arith, admits-limit ds h, length-append (wordsOf ds) (replicate (tableWords - 2 * length ds) 0), words-length ds)
 
 -- as many definitions as there are come back, whatever words follow
 pub definitions-back : (ds : List Definition) (ws : List ℕ) → AllInRange ds → definitions (length ds) (wordsOf ds ++ ws) ≡ ds
@@ -163,8 +152,9 @@ words-sound : (rs ds : List Definition) (m : ℕ) → Admits ds rs → AllInRang
 unfolding checkFrom wordsOf
 words-sound [] ds m h f = rw append-nil (none-sound ds m)
 words-sound (d ∷ rs) ds m h f =
-    rw (and-false (eqb (d .character) 0) (word-not-zero (d .meaning)), f .0 .character, word-sound (d .meaning) (f .0 .number), meaning-back (d .meaning) (f .0 .number), fresh-after ds d (admissible ds d (h .0)))
-    (rw append-snoc at (words-sound rs (ds ++ d ∷ []) m (h .1) (f .1)))
+    rw (and-false (eqb (d .character) 0) (word-not-zero (d .meaning)), f .0 .character, word-sound (d .meaning) (f .0 .number))
+    (rw (meaning-back (d .meaning) (f .0 .number), fresh-after ds d (admissible ds d (h .0)))
+    (rw append-snoc at (words-sound rs (ds ++ d ∷ []) m (h .1) (f .1))))
 
 module _ (ds : List Definition) (h : Admits [] ds) (f : AllInRange ds) (u : List ℕ) where
   -- an image passes the check, whatever words follow
