@@ -20,7 +20,7 @@ use Rattle.definitions.specs.declared.Definition.{Definition}
 use Rattle.definitions.specs.declared.Found.the-variants.{Nothing, Is}
 use Rattle.definitions.specs.declared.Verdict.the-variants.{Admitted, Refused}
 use Rattle.definitions.specs.declared.Walk.{Walk}
-use Rattle.definitions.specs.Definitions.{find, targetOf, table, aliasOf, walk, isAlias, aliases}
+use Rattle.definitions.specs.Definitions.{find, targetOf, table, aliasOf, walk, isAlias, aliases, WholeWalk}
 use Rattle.definitions.specs.Effects.{isDefined, closesLoop, definitionLimit, verdictOf}
 use Rattle.definitions.proofs.Finds.{orElse, orElse-nothing, find-append, not-found, found-kept}
 use Rattle.definitions.proofs.Walks.{Reaches, Link, Walks, walk-whole, links-kept, Ending, none-ending, put, put-at, put-extends, put-none, put-ending, put-returns, In, First, Later, Covers, walk-bound}
@@ -230,10 +230,6 @@ pub walk-walks : (ds : List Definition) → Admits [] ds → (c : ℕ) → Walks
 walk-walks ds h c = let v = all-end ds h c .walks in rw (walk-is ds v) v
 
 -- no walk is cut: it ends at a character without an alias, after no more links than there are aliases
-pub record WholeWalk (ds : List Definition) (c : ℕ) : Type 0 where
-  pub ends : aliasOf (table ds) (walk (table ds) c .end) ≡ M.Nothing
-  pub within : walk (table ds) c .links ≤ aliases ds
-
 pub whole-walk : (ds : List Definition) → Admits [] ds → (c : ℕ) → WholeWalk ds c
 whole-walk ds h c = let w = walk-walks ds h c in record { ends = w .ended; within = walk-aliases ds w }
 

@@ -8,9 +8,9 @@ use native.Mathlib.Omega.{arith}
 use lib.Dec.{eqb, leb, ltb}
 use lib.ListN.{length, take, drop, replicate, length-append, length-take, length-replicate, take-append-drop}
 use lib.Seq.{append-snoc, take-at}
-use borrow.Author.Tests.{eqb-true, ne-eqb, leb-true, le-leb, ltb-true, le-ltb, not-true}
+use borrow.Author.Tests.{eqb-true, ne-eqb, leb-true, le-leb, ltb-true, ltb-false, le-ltb, not-true}
 use Rattle.basics.specs.Choice.{pick}
-use Rattle.basics.specs.Refusals.{answered}
+use Rattle.basics.specs.Refusals.{answered, refused}
 use Rattle.unicode.specs.Characters.{isScalar}
 use Rattle.definitions.specs.declared.Meaning.{Meaning}
 use Rattle.definitions.specs.declared.Meaning.the-variants.{Typed, Shown, Alias}
@@ -20,7 +20,8 @@ use Rattle.definitions.specs.Effects.{isDefined, closesLoop}
 use Rattle.definitions.proofs.Finds.{not-found}
 use Rattle.definitions.proofs.Admission.{Admissible, admissible, admitted, Admits, admits-limit}
 use Rattle.table.specs.Words.{tableWords, kindUnit, wordOf, wordsOf, imageOf, isSoundWord, meaningOf, definitionOf, definitions}
-use Rattle.table.specs.Check.{isZeroPair, isSoundPair, isFresh, zeroFrom, checkFrom, checkOf, lentTable}
+use Rattle.table.specs.Check.{isZeroPair, isSoundPair, isFresh, zeroFrom, checkFrom, checkOf, checkedTable, lentTable}
+use Rattle.table.specs.declared.Checked.{Checked}
 use Rattle.table.specs.declared.Checked.the-variants.{Sound, FaultAt}
 
 -- ---- numbers in range
@@ -287,3 +288,16 @@ unfolding checkOf
 lent ws n long e =
     let size : length (take tableWords ws) ≡ tableWords = omega (arith, length-take tableWords ws) in
     lent-read ws n long size (check-reads [] (take tableWords ws) 1024 size (omega arith) e)
+
+-- the definitions of a lent table are admitted one after the other
+pub lent-admits : (ws : List ℕ) (ds : List Definition) → lentTable ws ≡ answered ds → Admits [] ds
+unfolding lentTable
+lent-admits ws ds = on-length (ltb (length ws) tableWords) refl
+  where
+    on-check : (checked : Checked) → checkOf ws ≡ checked → tableWords ≤ length ws → checkedTable ws checked ≡ answered ds → Admits [] ds
+    on-check (Sound n) p long e = let same : definitions n ws ≡ ds = cc in rw same at (lent ws n long p .admits)
+    on-check (FaultAt pair) p long e = absurd (let z : _≡_ {A = ℕ} 0 1 = cc in omega arith)
+
+    on-length : (b : Bool) → ltb (length ws) tableWords ≡ b → pick b (refused 2 0) (checkedTable ws (checkOf ws)) ≡ answered ds → Admits [] ds
+    on-length true p e = absurd (let z : _≡_ {A = ℕ} 0 1 = cc in omega arith)
+    on-length false p e = on-check (checkOf ws) refl (ltb-false (length ws) tableWords p) e
