@@ -1,0 +1,49 @@
+-- What is found where definitions follow others: in either part, kept by later ones, the same where no later one is for the character.
+use Prim.Native.Nat.{ℕ}
+use mathlib.Core.Path.{_≡_, refl}
+use mathlib.Core.Bool.{Bool, true, false}
+use mathlib.Core.List.{List, [], _∷_, _++_}
+use lib.Dec.{eqb}
+use Rattle.basics.specs.Choice.{pick}
+use Rattle.definitions.specs.declared.Meaning.{Meaning}
+use Rattle.definitions.specs.declared.Definition.{Definition}
+use Rattle.definitions.specs.declared.Found.{Found}
+use Rattle.definitions.specs.declared.Found.the-variants.{Nothing, Is}
+use Rattle.definitions.specs.Definitions.{find}
+use Rattle.definitions.specs.Effects.{isFound, isDefined}
+
+-- the first that is found
+abbrev pub orElse : Found → Found → Found
+orElse Nothing g = g
+orElse (Is meaning) g = Is meaning
+
+pub orElse-nothing : (f : Found) → orElse f Nothing ≡ f
+orElse-nothing Nothing = refl
+orElse-nothing (Is meaning) = refl
+
+pick-orElse : (b : Bool) (m : Meaning) (f g : Found) → pick b (Is m) (orElse f g) ≡ orElse (pick b (Is m) f) g
+pick-orElse true m f g = refl
+pick-orElse false m f g = refl
+
+-- the earlier definitions come first
+pub find-append : (xs ys : List Definition) (c : ℕ) → find (xs ++ ys) c ≡ orElse (find xs c) (find ys c)
+unfolding find
+find-append [] ys c = refl
+find-append (d ∷ xs) ys c = rw (find-append xs ys c) (pick-orElse (eqb (d .character) c) (d .meaning) (find xs c) (find ys c))
+
+-- a character without a definition is found nowhere
+pub not-found : (f : Found) → isFound f ≡ false → f ≡ Nothing
+not-found Nothing e = refl
+not-found (Is meaning) e = cc
+
+-- what is found stays found
+pub found-kept : (ds rs : List Definition) (c : ℕ) (m : Meaning) → find ds c ≡ Is m → find (ds ++ rs) c ≡ Is m
+found-kept ds rs c m e = rw (find-append, e)
+
+-- where nothing is found among the later ones, the earlier ones say
+pub found-before : (ds rs : List Definition) (c : ℕ) → find rs c ≡ Nothing → find (ds ++ rs) c ≡ find ds c
+found-before ds rs c h = rw (find-append, h) (orElse-nothing (find ds c))
+
+-- the same where no later definition is for the character
+pub found-same : (ds rs : List Definition) (c : ℕ) → isDefined rs c ≡ false → find (ds ++ rs) c ≡ find ds c
+found-same ds rs c h = found-before ds rs c (not-found (find rs c) h)

@@ -1,0 +1,195 @@
+-- A table and one that keeps all that it has: the rule that answers falls or stays, the same rule gives the same cell, and the
+-- answer is the same where both have the same for all that it goes by. First of any two tables, then of definitions that follow.
+use Prim.Native.Nat.{ℕ, _+_, _≤_}
+use mathlib.Core.Path.{_≡_, refl}
+use mathlib.Core.Bool.{Bool, true, false}
+use mathlib.Core.List.{List, [], _∷_, _++_}
+use native.Mathlib.Nat.{le-refl}
+use native.Mathlib.Omega.{arith}
+use lib.Dec.{eqb}
+use Rattle.basics.specs.Choice.{pick}
+use Rattle.basics.specs.declared.Maybe.{Maybe}
+use Rattle.basics.specs.declared.Maybe.the-variants as M
+use Rattle.unicode.specs.Characters.{isBraille, localOf, baseOf, standInOf}
+use Rattle.definitions.specs.declared.Meaning.{Meaning}
+use Rattle.definitions.specs.declared.Meaning.the-variants.{Typed, Shown, Alias}
+use Rattle.definitions.specs.declared.Definition.{Definition}
+use Rattle.definitions.specs.declared.Found.{Found}
+use Rattle.definitions.specs.declared.Found.the-variants.{Nothing, Is}
+use Rattle.definitions.specs.declared.Cell.{Cell}
+use Rattle.definitions.specs.declared.Cell.the-variants.{Absent, Dots}
+use Rattle.definitions.specs.declared.Walk.{Walk}
+use Rattle.definitions.specs.Definitions.{Table, table, cellOf, targetOf, explicit, aliasOf, walk}
+use Rattle.definitions.specs.Effects.{isDefined}
+use Rattle.definitions.proofs.Finds.{found-kept, found-same}
+use Rattle.definitions.proofs.Walks.{Walks, walk-unique, walk-kept}
+use Rattle.definitions.proofs.Admission.{Admits, admits-first, walk-walks}
+use Rattle.lookup.specs.declared.Answer.{Answer}
+use Rattle.lookup.specs.Rules.{explicitOf, endCell, candidates, choose, rulesFrom3, lookup}
+
+-- the second answer's rule is the first's or smaller; where it is the same, so is the cell
+pub record NotSpoiled (before after : Answer) : Type 0 where
+  pub rule : after .rule ≤ before .rule
+  pub cell : after .rule ≡ before .rule → after .cell ≡ before .cell
+
+-- all that the answer for c, as it stands after rule 2, goes by in the table T
+pub record Each (T : Table) (P : ℕ → Type 0) (c : ℕ) : Type 0 where
+  pub own : P c
+  pub base : (b : ℕ) → baseOf c ≡ M.Character b → P b
+  pub standIn : (s : ℕ) → standInOf c ≡ M.Character s → P s
+  pub end : P (walk T c .end)
+  pub replacement : P 0xFFFD
+  pub question : P 0x3F
+
+pub each-map : {T : Table} {P Q : ℕ → Type 0} {c : ℕ} → ((x : ℕ) → P x → Q x) → Each T P c → Each T Q c
+each-map {T} {c = c} f e = record {
+  own = f c (e .own);
+  base = λ b p. f b (e .base b p);
+  standIn = λ s p. f s (e .standIn s p);
+  end = f (walk T c .end) (e .end);
+  replacement = f 0xFFFD (e .replacement);
+  question = f 0x3F (e .question);
+}
+
+-- ---- the first cell of a list, where each cell of one list is in the other too
+
+abbrev Keeps : Cell → Cell → Type 0
+Keeps o p = (dots : ℕ) → o ≡ Dots dots → p ≡ Dots dots
+
+data Kept : List Cell → List Cell → Type 0 where
+  none : Kept [] []
+  more : {o p : Cell} {os ps : List Cell} → Keeps o p → Kept os ps → Kept (o ∷ os) (p ∷ ps)
+
+choose-from : (os : List Cell) (r links : ℕ) → r ≤ choose r os links .rule
+unfolding choose
+choose-from [] r links = le-refl r
+choose-from (Absent ∷ os) r links = omega (arith, choose-from os (r + 1) links)
+choose-from (Dots dots ∷ os) r links = le-refl r
+
+choose-kept : {os ps : List Cell} → Kept os ps → (r links links′ : ℕ) → NotSpoiled (choose r os links) (choose r ps links′)
+unfolding choose
+choose-kept none r links links′ = record { rule = le-refl r; cell = λ e. refl }
+choose-kept (more {o = Absent} {p = Absent} h t) r links links′ = choose-kept t (r + 1) links links′
+choose-kept (more {o = Absent} {p = Dots dots} {os = os} h t) r links links′ =
+    record { rule = omega (arith, choose-from os (r + 1) links); cell = λ e. absurd (omega (arith, choose-from os (r + 1) links)) }
+choose-kept (more {o = Dots dots} {p = p} h t) r links links′ = rw (h dots refl) (record { rule = le-refl r; cell = λ e. refl })
+
+pick-kept : (b : Bool) (a : Answer) {x y : Answer} → NotSpoiled x y → NotSpoiled (pick b a x) (pick b a y)
+pick-kept true a h = record { rule = le-refl _; cell = λ e. refl }
+pick-kept false a h = h
+
+-- ---- any two tables
+
+-- no walk is cut
+abbrev pub Whole : Table → Type 0
+Whole T = (c : ℕ) → Walks (aliasOf T) c (walk T c .end) (walk T c .links)
+
+walk-as : {x y j k : ℕ} → (x ≡ y) × (j ≡ k) → _≡_ {A = Walk} (record { end = x; links = j }) (record { end = y; links = k })
+walk-as (p, q) = λ i. record { end = p i; links = q i }
+
+-- G has all that T has, and no walk of either is cut
+module _ (T G : Table) (keep : (c : ℕ) (m : Meaning) → T .found c ≡ Is m → G .found c ≡ Is m) (whole : Whole T) (whole′ : Whole G) where
+  cell-kept : (c : ℕ) → Keeps (explicit T c) (explicit G c)
+  unfolding explicit
+  cell-kept c dots = go (T .found c) refl
+    where
+      go : (f : Found) → T .found c ≡ f → cellOf f ≡ Dots dots → cellOf (G .found c) ≡ Dots dots
+      go Nothing p e = cc
+      go (Is m) p e = rw (keep c m p) e
+
+  alias-kept : (c t : ℕ) → aliasOf T c ≡ M.Character t → aliasOf G c ≡ M.Character t
+  unfolding aliasOf
+  alias-kept c t = go (T .found c) refl
+    where
+      go : (f : Found) → T .found c ≡ f → targetOf f ≡ M.Character t → targetOf (G .found c) ≡ M.Character t
+      go Nothing p e = cc
+      go (Is m) p e = rw (keep c m p) e
+
+  other-kept : (o : Maybe) → Keeps (explicitOf T o) (explicitOf G o)
+  other-kept M.Nothing dots e = e
+  other-kept (M.Character c) dots e = cell-kept c dots e
+
+  -- an explicit cell is no alias
+  no-alias : (c dots : ℕ) → explicit G c ≡ Dots dots → aliasOf G c ≡ M.Nothing
+  unfolding explicit aliasOf
+  no-alias c dots = go (G .found c)
+    where
+      go : (f : Found) → cellOf f ≡ Dots dots → targetOf f ≡ M.Nothing
+      go Nothing e = refl
+      go (Is (Typed n)) e = refl
+      go (Is (Shown n)) e = refl
+      go (Is (Alias n)) e = cc
+
+  -- a walk whose end has no alias in G either is the same there
+  walk-same : (c : ℕ) → aliasOf G (walk T c .end) ≡ M.Nothing → walk G c ≡ walk T c
+  walk-same c h = walk-as (walk-unique (whole′ c) (walk-kept alias-kept h (whole c)))
+
+  end-kept : (c : ℕ) → Keeps (endCell T (walk T c)) (endCell G (walk G c))
+  end-kept c dots h =
+      let k = cell-kept (walk T c .end) dots (had (eqb (walk T c .links) 0) h) in
+      rw (walk-same c (no-alias (walk T c .end) dots k)) (has (eqb (walk T c .links) 0) h k)
+    where
+      had : (b : Bool) → pick b Absent (explicit T (walk T c .end)) ≡ Dots dots → explicit T (walk T c .end) ≡ Dots dots
+      had true g = cc
+      had false g = g
+
+      has : (b : Bool) → pick b Absent (explicit T (walk T c .end)) ≡ Dots dots → explicit G (walk T c .end) ≡ Dots dots
+          → pick b Absent (explicit G (walk T c .end)) ≡ Dots dots
+      has true g k = g
+      has false g k = k
+
+  candidates-kept : (c : ℕ) → Kept (candidates T c) (candidates G c)
+  unfolding candidates
+  candidates-kept c =
+      more (cell-kept c) (more (end-kept c) (more (other-kept (baseOf c)) (more (other-kept (standInOf c)) (more (cell-kept 0xFFFD) (more (cell-kept 0x3F) none)))))
+
+  -- the rule falls or stays, and the same rule gives the same cell
+  pub not-spoiled : (c : ℕ) → NotSpoiled (lookup T c) (lookup G c)
+  unfolding lookup rulesFrom3
+  not-spoiled c =
+      let p = choose-kept (candidates-kept (localOf c)) 3 (walk T (localOf c) .links) (walk G (localOf c) .links) in
+      pick-kept (isBraille c) _ (record { rule = omega (arith, p .rule); cell = λ e. p .cell (omega arith) })
+
+  same-cell : (c : ℕ) → G .found c ≡ T .found c → explicit G c ≡ explicit T c
+  unfolding explicit
+  same-cell c h = rw h
+
+  same-other : (o : Maybe) → ((c : ℕ) → o ≡ M.Character c → G .found c ≡ T .found c) → explicitOf G o ≡ explicitOf T o
+  same-other M.Nothing h = refl
+  same-other (M.Character c) h = same-cell c (h c refl)
+
+  same-walk : (c : ℕ) → G .found (walk T c .end) ≡ T .found (walk T c .end) → walk G c ≡ walk T c
+  unfolding aliasOf
+  same-walk c h = walk-same c (rw h (whole c .ended))
+
+  same-candidates : (c : ℕ) → Each T (λ x. G .found x ≡ T .found x) c → candidates G c ≡ candidates T c
+  unfolding candidates
+  same-candidates c h =
+      rw (same-walk c (h .end), same-cell c (h .own), same-cell (walk T c .end) (h .end))
+      (rw (same-other (baseOf c) (h .base), same-other (standInOf c) (h .standIn), same-cell 0xFFFD (h .replacement), same-cell 0x3F (h .question)))
+
+  same-rules : (c : ℕ) → Each T (λ x. G .found x ≡ T .found x) c → rulesFrom3 G c ≡ rulesFrom3 T c
+  unfolding rulesFrom3
+  same-rules c h = rw (same-candidates c h, same-walk c (h .end))
+
+  -- the answer is the same where both have the same for all that it goes by
+  pub same-answer : (c : ℕ) → Each T (λ x. G .found x ≡ T .found x) (localOf c) → lookup G c ≡ lookup T c
+  unfolding lookup
+  same-answer c h = rw (same-rules (localOf c) h)
+
+-- ---- definitions, and the same with others after them
+
+module _ (ds rs : List Definition) (h : Admits [] (ds ++ rs)) where
+  whole-first : Whole (table ds)
+  whole-first c = walk-walks ds (admits-first ds rs [] h) c
+
+  whole-grown : Whole (table (ds ++ rs))
+  whole-grown c = walk-walks (ds ++ rs) h c
+
+  -- the rule falls or stays, and the same rule gives the same cell
+  pub lookup-grown : (c : ℕ) → NotSpoiled (lookup (table ds) c) (lookup (table (ds ++ rs)) c)
+  lookup-grown c = not-spoiled (table ds) (table (ds ++ rs)) (found-kept ds rs) whole-first whole-grown c
+
+  -- the answer is the same where no later definition is for any character that it goes by
+  pub lookup-same : (c : ℕ) → Each (table ds) (λ x. isDefined rs x ≡ false) (localOf c) → lookup (table (ds ++ rs)) c ≡ lookup (table ds) c
+  lookup-same c apart = same-answer (table ds) (table (ds ++ rs)) (found-kept ds rs) whole-first whole-grown c (each-map (λ x. found-same ds rs x) apart)
