@@ -1,5 +1,12 @@
 // The lines of a text, and the words of a line.
 use basics::Refusal;
+use unicode::Validity;
+ghost use mathlib.Core.Path.{_≡_};
+ghost use Prim.Native.Nat.{_≤_};
+ghost use lib.ListN.{length};
+ghost use Rattle.lines.specs.Lines.{LineEnd, Trimmed};
+ghost use Rattle.lines.specs.Words.{isBlank, FirstAt, NextWord, sameBytes, isOver};
+ghost use Rattle.lines.specs.Texts.{openingOf};
 
 // A word of a line: the position of its first byte and the one after its last; equal where there is no word.
 pub struct Word {
@@ -13,4 +20,118 @@ pub enum Opening {
     Fault(Refusal, usize),
     Skip,
     Directive,
+}
+
+// Where the line that begins at `at` ends: at its LF, or at the end of the text.
+pub fn line_end(text: &[u8], at: usize) -> usize
+    requires { ⌜ at ≤ length (now text) ⌝ }
+    ensures { λ r. ⌜ LineEnd (now (text .entry)) at r ⌝ }
+{
+    let mut i = at;
+    while i < text.len() {
+        if text[i] == b'\n' {
+            return i;
+        }
+        i += 1;
+    }
+    i
+}
+
+// How many bytes of a line stand before its one CR.
+pub fn trimmed(line: &[u8]) -> usize
+    ensures { λ r. ⌜ Trimmed (now (line .entry)) r ⌝ }
+{
+    let n = line.len();
+    if n == 0 {
+        return 0;
+    }
+    if line[n - 1] == b'\r' {
+        return n - 1;
+    }
+    n
+}
+
+// Whether a byte is whitespace.
+pub fn is_blank(b: u8) -> bool
+    ensures { λ r. ⌜ r ≡ isBlank b ⌝ }
+{
+    if b == b' ' {
+        return true;
+    }
+    b == b'\t'
+}
+
+// The first position from `at` on that is whitespace (`blank`) or that is none (not `blank`), or the line's end.
+fn first_at(line: &[u8], at: usize, blank: bool) -> usize
+    requires { ⌜ at ≤ length (now line) ⌝ }
+    ensures { λ r. ⌜ FirstAt blank (now (line .entry)) at r ⌝ }
+{
+    let mut i = at;
+    while i < line.len() {
+        if is_blank(line[i]) == blank {
+            return i;
+        }
+        i += 1;
+    }
+    i
+}
+
+// The next word from `at` on: empty, at the line's end, where there is none.
+pub fn next_word(line: &[u8], at: usize) -> Word
+    requires { ⌜ at ≤ length (now line) ⌝ }
+    ensures { λ r. ⌜ NextWord (now (line .entry)) at r ⌝ }
+{
+    let start = first_at(line, at, false);
+    let end = first_at(line, start, true);
+    Word { start, end }
+}
+
+// Whether two slices hold the same bytes.
+pub fn same_bytes(a: &[u8], b: &[u8]) -> bool
+    ensures { λ r. ⌜ r ≡ sameBytes (now (a .entry)) (now (b .entry)) ⌝ }
+{
+    let mut i = 0;
+    while i < a.len() {
+        if b.len() <= i {
+            return false;
+        }
+        if a[i] != b[i] {
+            return false;
+        }
+        i += 1;
+    }
+    b.len() <= i
+}
+
+// Whether nothing, or a word that begins with `#`, stands from `at` on.
+pub fn is_over(line: &[u8], at: usize) -> bool
+    requires { ⌜ at ≤ length (now line) ⌝ }
+    ensures { λ r. ⌜ r ≡ isOver (now (line .entry)) at ⌝ }
+{
+    let w = next_word(line, at);
+    let start = w.start;
+    let end = w.end;
+    if start == end {
+        return true;
+    }
+    line[start] == b'#'
+}
+
+// What a line, without its end, is before its words are read.
+pub fn open_line(line: &[u8]) -> Opening
+    ensures { λ r. ⌜ r ≡ openingOf (now (line .entry)) ⌝ }
+{
+    let n = line.len();
+    if 1024 < n {
+        return Opening::Fault(Refusal::LineTooLong, n - 1024);
+    }
+    match unicode::check_utf8(line) {
+        Validity::BadAt(p) => Opening::Fault(Refusal::NotUtf8, n - p),
+        Validity::Good => {
+            if is_over(line, 0) {
+                return Opening::Skip;
+            }
+            Opening::Directive
+        }
+    }
 }

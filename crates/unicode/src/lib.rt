@@ -1,4 +1,9 @@
 // Characters: UTF-8, scalar values, base characters, ASCII stand-ins, the local character set.
+use basics::Maybe;
+ghost use mathlib.Core.Path.{_≡_};
+ghost use lib.ListN.{length};
+ghost use Rattle.unicode.specs.Utf8.{afterFirst, afterFurther, afterByte, atEnd, utf8, BadWithin};
+ghost use Rattle.unicode.specs.Characters.{isScalar, isBraille, isPrivate, localCharacter, localOf, standsFor, baseOf, standInOf};
 
 // Where the reading of a line as UTF-8 stands: between two characters; in a character that still wants `left` bytes,
 // the next of them from `low` to `high`; or past a bad sequence. The position is where that sequence begins.
@@ -17,4 +22,281 @@ pub enum Progress {
 pub enum Validity {
     Good,
     BadAt(usize),
+}
+
+fn inside(left: u8, low: u8, high: u8, start: usize) -> Progress
+    ensures { λ r. ⌜ r ≡ Progress.Inside left low high start ⌝ }
+{
+    Progress::Inside {
+        left,
+        low,
+        high,
+        start,
+    }
+}
+
+// After the first byte `b` of a character, which stands at `i`.
+fn after_first(b: u8, i: usize) -> Progress
+    ensures { λ r. ⌜ r ≡ afterFirst b i ⌝ }
+{
+    if b < 0x80 {
+        return Progress::Between;
+    }
+    if b < 0xC2 {
+        return Progress::Bad(i);
+    }
+    if b < 0xE0 {
+        return inside(1, 0x80, 0xBF, i);
+    }
+    if b == 0xE0 {
+        return inside(2, 0xA0, 0xBF, i);
+    }
+    if b == 0xED {
+        return inside(2, 0x80, 0x9F, i);
+    }
+    if b < 0xF0 {
+        return inside(2, 0x80, 0xBF, i);
+    }
+    if b == 0xF0 {
+        return inside(3, 0x90, 0xBF, i);
+    }
+    if b < 0xF4 {
+        return inside(3, 0x80, 0xBF, i);
+    }
+    if b == 0xF4 {
+        return inside(3, 0x80, 0x8F, i);
+    }
+    Progress::Bad(i)
+}
+
+// After a further byte `b` of a character.
+fn after_further(left: u8, low: u8, high: u8, start: usize, b: u8) -> Progress
+    ensures { λ r. ⌜ r ≡ afterFurther left low high start b ⌝ }
+{
+    if b < low {
+        return Progress::Bad(start);
+    }
+    if high < b {
+        return Progress::Bad(start);
+    }
+    if left <= 1 {
+        return Progress::Between;
+    }
+    inside(left - 1, 0x80, 0xBF, start)
+}
+
+// After the byte `b` at `i`.
+fn after_byte(p: Progress, b: u8, i: usize) -> Progress
+    ensures { λ r. ⌜ r ≡ afterByte p b i ⌝ }
+{
+    match p {
+        Progress::Between => after_first(b, i),
+        Progress::Inside {
+            left,
+            low,
+            high,
+            start,
+        } => after_further(left, low, high, start, b),
+        Progress::Bad(start) => Progress::Bad(start),
+    }
+}
+
+// At the line's end, where a cut sequence is bad too.
+fn at_end(p: Progress) -> Validity
+    ensures { λ r. ⌜ r ≡ atEnd p ⌝ }
+{
+    match p {
+        Progress::Between => Validity::Good,
+        Progress::Inside {
+            left: _,
+            low: _,
+            high: _,
+            start,
+        } => Validity::BadAt(start),
+        Progress::Bad(start) => Validity::BadAt(start),
+    }
+}
+
+// Whether all of `line` is UTF-8; if not, where the first bad sequence begins.
+pub fn check_utf8(line: &[u8]) -> Validity
+    ensures { λ r. ⌜ r ≡ utf8 (now (line .entry)) ⌝ }
+    ensures { λ r. ⌜ BadWithin r (length (now (line .entry))) ⌝ }
+{
+    let mut p = Progress::Between;
+    let mut i = 0;
+    while i < line.len() {
+        p = after_byte(p, line[i], i);
+        i += 1;
+    }
+    at_end(p)
+}
+
+// Whether `c` is a Unicode scalar value.
+pub fn is_scalar(c: u32) -> bool
+    ensures { λ r. ⌜ r ≡ isScalar c ⌝ }
+{
+    if c < 0xD800 {
+        return true;
+    }
+    if c < 0xE000 {
+        return false;
+    }
+    c < 0x110000
+}
+
+// Whether `c` is in the braille row, U+2800 to U+28FF.
+pub fn is_braille(c: u32) -> bool
+    ensures { λ r. ⌜ r ≡ isBraille c ⌝ }
+{
+    if c < 0x2800 {
+        return false;
+    }
+    c <= 0x28FF
+}
+
+// Whether `c` is in the private row, U+F000 to U+F0FF.
+pub fn is_private(c: u32) -> bool
+    ensures { λ r. ⌜ r ≡ isPrivate c ⌝ }
+{
+    if c < 0xF000 {
+        return false;
+    }
+    c <= 0xF0FF
+}
+
+// The character of a byte of the local set.
+pub fn local_character(byte: u8) -> u32
+    ensures { λ r. ⌜ r ≡ localCharacter byte ⌝ }
+{
+    byte as u32
+}
+
+// The character after rule 2.
+pub fn local_of(c: u32) -> u32
+    ensures { λ r. ⌜ r ≡ localOf c ⌝ }
+{
+    if is_private(c) {
+        return local_character((c % 256) as u8);
+    }
+    c
+}
+
+// First character, last character, and the base character of all between.
+const BASES: [u32; 51] = [
+    0xC0,
+    0xC5,
+    0x41,
+    0xC7,
+    0xC7,
+    0x43,
+    0xC8,
+    0xCB,
+    0x45,
+    0xCC,
+    0xCF,
+    0x49,
+    0xD1,
+    0xD1,
+    0x4E,
+    0xD2,
+    0xD6,
+    0x4F,
+    0xD9,
+    0xDC,
+    0x55,
+    0xDD,
+    0xDD,
+    0x59,
+    0xE0,
+    0xE5,
+    0x61,
+    0xE7,
+    0xE7,
+    0x63,
+    0xE8,
+    0xEB,
+    0x65,
+    0xEC,
+    0xEF,
+    0x69,
+    0xF1,
+    0xF1,
+    0x6E,
+    0xF2,
+    0xF6,
+    0x6F,
+    0xF9,
+    0xFC,
+    0x75,
+    0xFD,
+    0xFD,
+    0x79,
+    0xFF,
+    0xFF,
+    0x79,
+];
+
+// The same for ASCII stand-ins.
+const STAND_INS: [u32; 30] = [
+    0xA0,
+    0xA0,
+    0x20,
+    0xC6,
+    0xC6,
+    0x41,
+    0xD7,
+    0xD7,
+    0x78,
+    0xD8,
+    0xD8,
+    0x4F,
+    0xDF,
+    0xDF,
+    0x73,
+    0xE6,
+    0xE6,
+    0x61,
+    0xF8,
+    0xF8,
+    0x6F,
+    0x2010,
+    0x2014,
+    0x2D,
+    0x2018,
+    0x2019,
+    0x27,
+    0x201C,
+    0x201D,
+    0x22,
+];
+
+// What stands for `c` by rows of three numbers: first character, last character, what stands for them.
+fn stands_for(rows: &[u32], c: u32) -> Maybe
+    ensures { λ r. ⌜ r ≡ standsFor (now (rows .entry)) c ⌝ }
+{
+    let mut i = 0;
+    let n = rows.len() / 3;
+    while i < n {
+        if rows[3 * i] <= c {
+            if c <= rows[3 * i + 1] {
+                return Maybe::Character(rows[3 * i + 2]);
+            }
+        }
+        i += 1;
+    }
+    Maybe::Nothing
+}
+
+// The base character of `c`.
+pub fn base_of(c: u32) -> Maybe
+    ensures { λ r. ⌜ r ≡ baseOf c ⌝ }
+{
+    stands_for(&BASES, c)
+}
+
+// The ASCII stand-in of `c`.
+pub fn stand_in_of(c: u32) -> Maybe
+    ensures { λ r. ⌜ r ≡ standInOf c ⌝ }
+{
+    stands_for(&STAND_INS, c)
 }

@@ -1,0 +1,4 @@
+pub mod Lines
+pub mod Words
+pub mod Openings
+pub mod Texts
