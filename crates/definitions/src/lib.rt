@@ -1,4 +1,8 @@
 // A definition, and what a table has for a character.
+use basics::Maybe;
+use basics::Refusal;
+ghost use mathlib.Core.Path.{_≡_};
+ghost use Rattle.definitions.specs.Definitions.{cellOf, targetOf, types};
 
 // What a character means: typed and shown dots, shown dots, or an alias to another character.
 pub enum Meaning {
@@ -34,5 +38,58 @@ pub struct Walk {
 // Whether a definition may take effect.
 pub enum Verdict {
     Admitted,
-    Refused(basics::Refusal),
+    Refused(Refusal),
+}
+
+// The explicit cell of a meaning.
+fn meaning_cell(m: Meaning) -> Cell
+    ensures { λ r. ⌜ r ≡ cellOf (Found.Is m) ⌝ }
+{
+    match m {
+        Meaning::Typed(dots) => Cell::Dots(dots),
+        Meaning::Shown(dots) => Cell::Dots(dots),
+        Meaning::Alias(_) => Cell::Absent,
+    }
+}
+
+// The explicit cell of what was found.
+pub fn cell_of(f: Found) -> Cell
+    ensures { λ r. ⌜ r ≡ cellOf f ⌝ }
+{
+    match f {
+        Found::Nothing => Cell::Absent,
+        Found::Is(m) => meaning_cell(m),
+    }
+}
+
+// The alias target of a meaning.
+pub fn meaning_target(m: Meaning) -> Maybe
+    ensures { λ r. ⌜ r ≡ targetOf (Found.Is m) ⌝ }
+{
+    match m {
+        Meaning::Typed(_) => Maybe::Nothing,
+        Meaning::Shown(_) => Maybe::Nothing,
+        Meaning::Alias(target) => Maybe::Character(target),
+    }
+}
+
+// The alias target of what was found.
+pub fn target_of(f: Found) -> Maybe
+    ensures { λ r. ⌜ r ≡ targetOf f ⌝ }
+{
+    match f {
+        Found::Nothing => Maybe::Nothing,
+        Found::Is(m) => meaning_target(m),
+    }
+}
+
+// Whether a meaning is that of a `char` line with that cell.
+pub fn types_cell(m: Meaning, cell: u8) -> bool
+    ensures { λ r. ⌜ r ≡ types m cell ⌝ }
+{
+    match m {
+        Meaning::Typed(dots) => dots == cell,
+        Meaning::Shown(_) => false,
+        Meaning::Alias(_) => false,
+    }
 }

@@ -1,1 +1,5 @@
+pub mod Pairs
+pub mod Walks
+pub mod Check
+pub mod Store
 pub mod Readback

@@ -19,6 +19,7 @@ use Rattle.definitions.specs.Definitions.{find}
 use Rattle.definitions.specs.Effects.{isDefined, closesLoop}
 use Rattle.definitions.proofs.Finds.{not-found}
 use Rattle.definitions.proofs.Admission.{Admissible, admissible, admitted, Admits, admits-limit}
+use Rattle.table.proofs.Store.{image-length}
 use Rattle.table.specs.Words.{tableWords, kindUnit, wordOf, wordsOf, imageOf, isSoundWord, meaningOf, definitionOf, definitions}
 use Rattle.table.specs.Check.{isZeroPair, isSoundPair, isFresh, zeroFrom, checkFrom, checkOf, checkedTable, lentTable}
 use Rattle.table.specs.declared.Checked.{Checked}
@@ -112,21 +113,10 @@ number-in-range w = go (eqb (w / kindUnit) 1) (eqb (w / kindUnit) 2) (eqb (w / k
 
 -- ---- the words of a table
 
-pub words-length : (ds : List Definition) → length (wordsOf ds) ≡ 2 * length ds
-unfolding wordsOf
-words-length [] = refl
-words-length (d ∷ ds) = omega (arith, words-length ds)
-
 pub words-append : (xs ys : List Definition) → wordsOf (xs ++ ys) ≡ wordsOf xs ++ wordsOf ys
 unfolding wordsOf
 words-append [] ys = refl
 words-append (d ∷ xs) ys = rw (words-append xs ys)
-
--- an image has 2,048 words
-pub image-length : (ds : List Definition) → Admits [] ds → length (imageOf ds) ≡ tableWords
-image-length ds h =
-    let zeros = length-replicate {A = ℕ} (tableWords - 2 * length ds) 0 in
-    omega (arith, admits-limit ds h, length-append (wordsOf ds) (replicate (tableWords - 2 * length ds) 0), words-length ds)
 
 -- as many definitions as there are come back, whatever words follow
 pub definitions-back : (ds : List Definition) (ws : List ℕ) → AllInRange ds → definitions (length ds) (wordsOf ds ++ ws) ≡ ds
@@ -161,7 +151,7 @@ module _ (ds : List Definition) (h : Admits [] ds) (f : AllInRange ds) (u : List
   -- an image passes the check, whatever words follow
   pub image-sound : checkOf (imageOf ds ++ u) ≡ Sound (length ds)
   unfolding checkOf
-  image-sound = rw (take-at (imageOf ds) u tableWords (image-length ds h)) (words-sound ds [] (tableWords - 2 * length ds) h f)
+  image-sound = rw (take-at (imageOf ds) u tableWords (image-length ds (admits-limit ds h))) (words-sound ds [] (tableWords - 2 * length ds) h f)
 
   -- its pairs are its definitions
   pub image-back : definitions (length ds) (imageOf ds ++ u) ≡ ds
@@ -170,7 +160,7 @@ module _ (ds : List Definition) (h : Admits [] ds) (f : AllInRange ds) (u : List
   -- so it is the table of its definitions
   pub image-lent : lentTable (imageOf ds ++ u) ≡ answered ds
   unfolding lentTable
-  image-lent = rw (le-ltb (length (imageOf ds ++ u)) tableWords (omega (arith, length-append (imageOf ds) u, image-length ds h)), image-sound, image-back)
+  image-lent = rw (le-ltb (length (imageOf ds ++ u)) tableWords (omega (arith, length-append (imageOf ds) u, image-length ds (admits-limit ds h))), image-sound, image-back)
 
 -- ---- words that pass the check
 

@@ -1,7 +1,267 @@
-// A compiled table: 2,048 words of a lent slice, two a definition.
+// A compiled table: 2,048 words of a lent slice, two a definition. A count is that of the pairs that count as definitions.
+use basics::Maybe;
+use basics::Refusal;
+use definitions::Cell;
+use definitions::Definition;
+use definitions::Found;
+use definitions::Meaning;
+use definitions::Verdict;
+ghost use mathlib.Core.Path.{_≡_};
+ghost use mathlib.Core.Bool.{_&&_};
+ghost use mathlib.Core.List.{[], _++_};
+ghost use Prim.Native.Nat.{_+_, _*_, _≤_, _<_};
+ghost use lib.ListN.{length, drop, set, replicate};
+ghost use Rattle.definitions.specs.Definitions.{find, table, explicit};
+ghost use Rattle.definitions.specs.Effects.{closesLoop, verdictOf};
+ghost use Rattle.table.specs.Words.{wordOf, meaningOf, isSoundWord, definitions};
+ghost use Rattle.table.specs.Walks.{walked};
+ghost use Rattle.table.specs.Check.{isZeroPair, isSoundPair, zeroFrom, checkFrom, checkOf};
 
 // What a lent slice of 2,048 words or more is: a table of so many definitions, or none, by the first pair at fault.
 pub enum Checked {
     Sound(usize),
     FaultAt(usize),
+}
+
+// The end of an alias walk, how many links it has, and the explicit cell of its end.
+pub struct Walked {
+    pub end: u32,
+    pub links: usize,
+    pub cell: Cell,
+}
+
+fn widen(dots: u8) -> u32
+    ensures { λ r. ⌜ r ≡ dots ⌝ }
+{
+    dots as u32
+}
+
+// The second word of a definition.
+fn word_of(m: Meaning) -> u32
+    requires { ⌜ wordOf m < 67108864 ⌝ }
+    ensures { λ r. ⌜ r ≡ wordOf m ⌝ }
+{
+    match m {
+        Meaning::Typed(dots) => 16777216 + widen(dots),
+        Meaning::Shown(dots) => 33554432 + widen(dots),
+        Meaning::Alias(target) => 50331648 + target,
+    }
+}
+
+// What a second word says, whatever it holds.
+pub fn meaning_of(w: u32) -> Meaning
+    ensures { λ r. ⌜ r ≡ meaningOf w ⌝ }
+{
+    let kind = w / 16777216;
+    if kind == 1 {
+        return Meaning::Typed((w % 256) as u8);
+    }
+    if kind == 2 {
+        return Meaning::Shown((w % 256) as u8);
+    }
+    Meaning::Alias(w % 16777216)
+}
+
+// Whether a second word has a good kind and number.
+fn is_sound_word(w: u32) -> bool
+    ensures { λ r. ⌜ r ≡ isSoundWord w ⌝ }
+{
+    let kind = w / 16777216;
+    let number = w % 16777216;
+    if kind == 1 {
+        return number <= 255;
+    }
+    if kind == 2 {
+        return number <= 255;
+    }
+    if kind == 3 {
+        return unicode::is_scalar(number);
+    }
+    false
+}
+
+// What the first pair of the character `c` says.
+pub fn find_pair(words: &[u32], count: usize, c: u32) -> Found
+    requires { ⌜ 2 * count ≤ length (now words) ⌝ }
+    ensures { λ r. ⌜ r ≡ find (definitions count (now (words .entry))) c ⌝ }
+{
+    let mut i = 0;
+    while i < count {
+        if words[2 * i] == c {
+            return Found::Is(meaning_of(words[2 * i + 1]));
+        }
+        i += 1;
+    }
+    Found::Nothing
+}
+
+// The explicit cell of `c`.
+pub fn explicit_cell(words: &[u32], count: usize, c: u32) -> Cell
+    requires { ⌜ 2 * count ≤ length (now words) ⌝ }
+    ensures { λ r. ⌜ r ≡ explicit (table (definitions count (now (words .entry)))) c ⌝ }
+{
+    definitions::cell_of(find_pair(words, count, c))
+}
+
+// The alias walk of `c`. What was found at its end says the cell too, so that the end is not looked for again.
+pub fn walk_from(words: &[u32], count: usize, c: u32) -> Walked
+    requires { ⌜ 2 * count ≤ length (now words) ⌝ }
+    ensures { λ r. ⌜ r ≡ walked (table (definitions count (now (words .entry)))) c ⌝ }
+{
+    let mut at = c;
+    let mut links = 0;
+    while links < count {
+        let f = find_pair(words, count, at);
+        match definitions::target_of(f) {
+            Maybe::Character(target) => {
+                at = target;
+                links += 1;
+            }
+            Maybe::Nothing => {
+                return Walked {
+                    end: at,
+                    links,
+                    cell: definitions::cell_of(f),
+                };
+            }
+        }
+    }
+    Walked {
+        end: at,
+        links,
+        cell: explicit_cell(words, count, at),
+    }
+}
+
+// Whether an alias of `c` by that meaning would close a loop with the definitions so far.
+fn closes_loop(words: &[u32], count: usize, c: u32, m: Meaning) -> bool
+    requires { ⌜ 2 * count ≤ length (now words) ⌝ }
+    ensures { λ r. ⌜ r ≡ closesLoop (definitions count (now (words .entry))) (record { character = c; meaning = m }) ⌝ }
+{
+    match definitions::meaning_target(m) {
+        Maybe::Nothing => false,
+        Maybe::Character(target) => {
+            let w = walk_from(words, count, target);
+            w.end == c
+        }
+    }
+}
+
+// Whether a definition may take effect after those so far: 11, 12, 13 in this order.
+pub fn judge(words: &[u32], count: usize, d: Definition) -> Verdict
+    requires { ⌜ 2 * count ≤ length (now words) ⌝ }
+    ensures { λ r. ⌜ r ≡ verdictOf (definitions count (now (words .entry))) d ⌝ }
+{
+    let c = d.character;
+    let m = d.meaning;
+    match find_pair(words, count, c) {
+        Found::Is(_) => Verdict::Refused(Refusal::AlreadyDefined),
+        Found::Nothing => {
+            if closes_loop(words, count, c, m) {
+                return Verdict::Refused(Refusal::AliasLoop);
+            }
+            if 1024 <= count {
+                return Verdict::Refused(Refusal::TableFull);
+            }
+            Verdict::Admitted
+        }
+    }
+}
+
+// Writes definition `k`.
+pub fn put(words: &mut [u32], k: usize, d: Definition)
+    requires { ⌜ (2 * k + 1 < length (now words)) × (wordOf (d .meaning) < 67108864) ⌝ }
+    ensures { λ r. ⌜ now (words .exit) ≡ set (set (now (words .entry)) (2 * k) (d .character)) (2 * k + 1) (wordOf (d .meaning)) ⌝ }
+{
+    let c = d.character;
+    let m = d.meaning;
+    words[2 * k] = c;
+    words[2 * k + 1] = word_of(m);
+}
+
+// Zeroes the 2,048 words.
+pub fn clear(words: &mut [u32])
+    requires { ⌜ 2048 ≤ length (now words) ⌝ }
+    ensures { λ r. ⌜ now (words .exit) ≡ replicate 2048 0 ++ drop 2048 (now (words .entry)) ⌝ }
+{
+    let mut i = 0;
+    while i < 2048 {
+        words[i] = 0;
+        i += 1;
+    }
+}
+
+fn is_zero_pair(c: u32, w: u32) -> bool
+    ensures { λ r. ⌜ r ≡ isZeroPair c w ⌝ }
+{
+    if c == 0 {
+        return w == 0;
+    }
+    false
+}
+
+fn is_sound_pair(c: u32, w: u32) -> bool
+    ensures { λ r. ⌜ r ≡ isSoundPair c w ⌝ }
+{
+    if unicode::is_scalar(c) {
+        return is_sound_word(w);
+    }
+    false
+}
+
+// Behind a zero pair: the pairs from `from` on are zero, or the first that is not is at fault.
+fn zero_from(words: &[u32], count: usize, from: usize) -> Checked
+    requires { ⌜ (length (now words) ≡ 2048) × (from ≤ 1024) ⌝ }
+    ensures { λ r. ⌜ r ≡ zeroFrom count from (drop (2 * from) (now (words .entry))) ⌝ }
+{
+    let mut i = from;
+    while i < 1024 {
+        if !is_zero_pair(words[2 * i], words[2 * i + 1]) {
+            return Checked::FaultAt(i);
+        }
+        i += 1;
+    }
+    Checked::Sound(count)
+}
+
+// The check of 2,048 words: each pair against the earlier ones, left at the first repeat.
+fn check_words(words: &[u32]) -> Checked
+    requires { ⌜ length (now words) ≡ 2048 ⌝ }
+    ensures { λ r. ⌜ r ≡ checkFrom [] (now (words .entry)) ⌝ }
+{
+    let mut k = 0;
+    'pairs: while k < 1024 {
+        let c = words[2 * k];
+        let w = words[2 * k + 1];
+        if is_zero_pair(c, w) {
+            return zero_from(words, k, k + 1);
+        }
+        if !is_sound_pair(c, w) {
+            return Checked::FaultAt(k);
+        }
+        let mut j = 0;
+        while j < k {
+            if words[2 * j] == c {
+                break 'pairs;
+            }
+            j += 1;
+        }
+        if closes_loop(words, k, c, meaning_of(w)) {
+            return Checked::FaultAt(k);
+        }
+        k += 1;
+    }
+    if k < 1024 {
+        Checked::FaultAt(k)
+    } else {
+        Checked::Sound(1024)
+    }
+}
+
+// Which table a lent slice is, or its first pair at fault.
+pub fn check_table(words: &[u32]) -> Checked
+    requires { ⌜ 2048 ≤ length (now words) ⌝ }
+    ensures { λ r. ⌜ r ≡ checkOf (now (words .entry)) ⌝ }
+{
+    check_words(&words[..2048])
 }

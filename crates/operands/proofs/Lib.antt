@@ -1,0 +1,4 @@
+pub mod Characters
+pub mod Cells
+pub mod Operands
+pub mod InRange

@@ -1,0 +1,77 @@
+-- The definitions of the words by position, as a scan by index meets them.
+use Prim.Native.Nat.{ℕ, zero, suc, _+_, _*_, _-_, _≤_, _<_}
+use mathlib.Core.Path.{_≡_, refl, sym, ap, _∙_}
+use mathlib.Core.List.{List, [], _∷_, _++_}
+use native.Mathlib.Omega.{arith}
+use lib.ListN.{length, getD, drop}
+use lib.Seq.{drop-cons}
+use borrow.Author.Tests.{eq-eqb, ne-eqb}
+use Rattle.definitions.specs.declared.Meaning.{Meaning}
+use Rattle.definitions.specs.declared.Definition.{Definition}
+use Rattle.definitions.specs.declared.Found.{Found}
+use Rattle.definitions.specs.declared.Found.the-variants.{Nothing, Is}
+use Rattle.definitions.specs.Definitions.{find}
+use Rattle.table.specs.Words.{meaningOf, definitionOf, definitions}
+
+pub two-more : (ws : List ℕ) (j : ℕ) → j + 1 < length ws → drop j ws ≡ getD ws j 0 ∷ getD ws (j + 1) 0 ∷ drop (j + 2) ws
+two-more ws j h =
+    let p : j < length ws = omega arith in
+    let q : suc j < length ws = omega arith in
+    let a : j + 1 ≡ suc j = omega arith in
+    let b : j + 2 ≡ suc (suc j) = omega arith in
+    rw (a, b, drop-cons ws j 0 p, drop-cons ws (suc j) 0 q)
+
+pub definitions-length : (n : ℕ) (ws : List ℕ) → 2 * n ≤ length ws → length (definitions n ws) ≡ n
+unfolding definitions
+definitions-length zero ws h = refl
+definitions-length (suc n) [] h = absurd (omega arith)
+definitions-length (suc n) (c ∷ []) h = absurd (omega arith)
+definitions-length (suc n) (c ∷ w ∷ ws) h = ap suc (definitions-length n ws (omega arith))
+
+-- the definitions of one pair more
+pub definitions-more : (n : ℕ) (ws : List ℕ) → 2 * n + 1 < length ws → definitions (n + 1) ws ≡ definitions n ws ++ definitionOf (getD ws (2 * n) 0) (getD ws (2 * n + 1) 0) ∷ []
+unfolding definitions
+definitions-more n [] h = absurd (omega arith)
+definitions-more n (c ∷ []) h = absurd (omega arith)
+definitions-more zero (c ∷ w ∷ ws) h = refl
+definitions-more (suc n) (c ∷ w ∷ ws) h =
+    let a : suc n + 1 ≡ suc (n + 1) = omega arith in
+    let b : 2 * suc n ≡ suc (suc (2 * n)) = omega arith in
+    let d : suc (suc (2 * n)) + 1 ≡ suc (suc (2 * n + 1)) = omega arith in
+    rw (a, b, d) (ap (λ (l : List Definition). definitionOf c w ∷ l) (definitions-more n ws (omega arith)))
+
+-- the definitions of the pairs i to n
+abbrev pub rest : ℕ → ℕ → List ℕ → List Definition
+rest n i ws = definitions (n - i) (drop (2 * i) ws)
+
+pub rest-all : (n : ℕ) (ws : List ℕ) → rest n 0 ws ≡ definitions n ws
+rest-all n ws = let a : n - 0 ≡ n = omega arith in rw a
+
+rest-none : (n i : ℕ) (ws : List ℕ) → n ≤ i → rest n i ws ≡ []
+unfolding definitions
+rest-none n i ws h = let a : n - i ≡ 0 = omega arith in rw a
+
+definitions-first : (n c w : ℕ) (ws : List ℕ) → definitions (suc n) (c ∷ w ∷ ws) ≡ definitionOf c w ∷ definitions n ws
+unfolding definitions
+definitions-first n c w ws = refl
+
+rest-more : (n i : ℕ) (ws : List ℕ) → i < n → 2 * n ≤ length ws → rest n i ws ≡ definitionOf (getD ws (2 * i) 0) (getD ws (2 * i + 1) 0) ∷ rest n (i + 1) ws
+rest-more n i ws h l =
+    let a : n - i ≡ suc (n - (i + 1)) = omega arith in
+    let b : 2 * (i + 1) ≡ 2 * i + 2 = omega arith in
+    let p : 2 * i + 1 < length ws = omega arith in
+    rw (b, a, two-more ws (2 * i) p) (definitions-first _ _ _ _)
+
+-- a scan for c that has come to pair i of n; x is what it is to answer
+module _ (x : Found) (n i : ℕ) (ws : List ℕ) (c : ℕ) (inv : x ≡ find (rest n i ws) c) where
+  pub scan-here : {m : Meaning} → i < n → 2 * n ≤ length ws → getD ws (2 * i) 0 ≡ c → m ≡ meaningOf (getD ws (2 * i + 1) 0) → Is m ≡ x
+  unfolding find
+  scan-here h l e p = sym (inv ∙ rw (rest-more n i ws h l, eq-eqb _ c e, p))
+
+  pub scan-later : i < n → 2 * n ≤ length ws → (getD ws (2 * i) 0 ≡ c → ⊥) → x ≡ find (rest n (i + 1) ws) c
+  unfolding find
+  scan-later h l e = inv ∙ rw (rest-more n i ws h l, ne-eqb _ c e)
+
+  pub scan-none : n ≤ i → Nothing ≡ x
+  unfolding find
+  scan-none h = sym (inv ∙ rw (rest-none n i ws h))
