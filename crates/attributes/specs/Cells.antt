@@ -1,5 +1,5 @@
 -- The cell of a VGA attribute byte.
-use Prim.Native.Nat.{ℕ, zero, suc, _+_, _*_, _/_, _%_}
+use Prim.Native.Nat.{ℕ, _+_, _/_, _%_, _^_}
 use mathlib.Core.Bool.{Bool, true, false, not}
 use mathlib.Core.List.{List, [], _∷_}
 use lib.ListN.{replicate}
@@ -35,14 +35,14 @@ isRaised unnamed (Off name) byte = not (isOn name byte)
 abbrev pub unnamedRaised : Bool
 unnamedRaised = false
 
--- the dots of some places, the first of them of that weight
+-- the dots of some places, the first of them that of dot i + 1, which adds 2^i
 unfoldable pub cellFrom : List Place → ℕ → ℕ → ℕ
-cellFrom [] byte weight = 0
-cellFrom (p ∷ ps) byte weight = pick (isRaised unnamedRaised (p .state) byte) weight 0 + cellFrom ps byte (2 * weight)
+cellFrom [] byte i = 0
+cellFrom (p ∷ ps) byte i = pick (isRaised unnamedRaised (p .state) byte) (2 ^ i) 0 + cellFrom ps byte (i + 1)
 
 -- the cell of a byte by the eight places of a table
 abbrev pub attributeCell : List Place → ℕ → ℕ
-attributeCell places byte = cellFrom places byte 1
+attributeCell places byte = cellFrom places byte 0
 
 abbrev pub place : State → Place
 place state = record { state = state }

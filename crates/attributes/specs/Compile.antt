@@ -1,5 +1,5 @@
 -- Compiling an attributes table: one line a dot at most, and what the compile call answers.
-use Prim.Native.Nat.{ℕ, _+_}
+use Prim.Native.Nat.{ℕ, _+_, _<_}
 use mathlib.Core.Bool.{Bool, true, false}
 use mathlib.Core.List.{List}
 use lib.ListN.{getD, set}
@@ -15,16 +15,16 @@ use Rattle.attributes.specs.Reader.{dotLine}
 use Rattle.attributes.specs.declared.State.{State}
 use Rattle.attributes.specs.declared.State.the-variants.{Unnamed, On, Off}
 use Rattle.attributes.specs.declared.Place.{Place}
+use Rattle.attributes.specs.declared.Filled.{Filled}
+use Rattle.attributes.specs.declared.Stopped.{Stopped}
+use Rattle.attributes.specs.declared.Stopped.the-variants as St
+use Rattle.attributes.specs.declared.Stepped.{Stepped}
 use Rattle.attributes.specs.declared.DotLine.{DotLine}
 use Rattle.attributes.specs.declared.DotLine.the-variants.{Fault, Nothing, Dot}
 use Rattle.attributes.specs.declared.AttributesAnswer.{AttributesAnswer}
 use Rattle.attributes.specs.declared.AttributesAnswer.the-variants as A
 
 -- the eight places so far, and how many `dot` lines filled them
-pub record Filled : Type 0 where
-  pub places : List Place
-  pub lines : ℕ
-
 abbrev pub filled : List Place → ℕ → Filled
 filled places lines = record { places = places; lines = lines }
 
@@ -42,6 +42,12 @@ opened line O.Directive = dotLine line
 unfoldable pub readLine : List ℕ → DotLine
 readLine line = opened line (openingOf line)
 
+-- a dot that is read is one of eight
+abbrev pub DotWithin : DotLine → Type 0
+DotWithin (Fault refusal left) = Unit {0}
+DotWithin Nothing = Unit {0}
+DotWithin (Dot dot state left) = dot < 8
+
 -- a dot has one line at most
 abbrev pub withDot : Filled → DotLine → Step Filled
 withDot f (Fault refusal left) = stop refusal
@@ -52,6 +58,14 @@ withDot f (Dot dot state left) =
 
 unfoldable pub step : Filled → List ℕ → Step Filled
 step f line = withDot f (readLine line)
+
+-- the code's step: the state beside the refusal that there may be
+abbrev pub steppedBy : Stopped → Filled → Step Filled
+steppedBy St.No f = next f
+steppedBy (St.By refusal) f = stop refusal
+
+abbrev pub steppedTo : Stepped → Step Filled
+steppedTo s = steppedBy (s .stopped) (s .filled)
 
 -- the table of an attributes text
 unfoldable pub compiled : List ℕ → Outcome Filled

@@ -23,18 +23,22 @@ use Rattle.attributes.specs.declared.DotLine.the-variants.{Fault, Nothin
 abbrev pub signed : ℕ → Attribute → StateOperand
 signed sign name = pick (eqb sign 61) (Is (On name)) (pick (eqb sign 126) (Is (Off name)) Bad)
 
--- the eight names, which match exactly, behind a sign
+-- the eight names, which match exactly, behind a sign: those of the background and `blink`, and all
+unfoldable pub backgroundState : ℕ → List ℕ → StateOperand
+backgroundState sign name =
+    pick (sameBytes name (ascii "bg-blue")) (signed sign A.BgBlue)
+    (pick (sameBytes name (ascii "bg-green")) (signed sign A.BgGreen)
+    (pick (sameBytes name (ascii "bg-red")) (signed sign A.BgRed)
+    (pick (sameBytes name (ascii "blink")) (signed sign A.Blink)
+    Bad)))
+
 unfoldable pub namedState : ℕ → List ℕ → StateOperand
 namedState sign name =
     pick (sameBytes name (ascii "fg-blue")) (signed sign A.FgBlue)
     (pick (sameBytes name (ascii "fg-green")) (signed sign A.FgGreen)
     (pick (sameBytes name (ascii "fg-red")) (signed sign A.FgRed)
     (pick (sameBytes name (ascii "fg-bright")) (signed sign A.FgBright)
-    (pick (sameBytes name (ascii "bg-blue")) (signed sign A.BgBlue)
-    (pick (sameBytes name (ascii "bg-green")) (signed sign A.BgGreen)
-    (pick (sameBytes name (ascii "bg-red")) (signed sign A.BgRed)
-    (pick (sameBytes name (ascii "blink")) (signed sign A.Blink)
-    Bad)))))))
+    (backgroundState sign name))))
 
 -- a state operand is a whole word
 unfoldable pub stateOf : List ℕ → StateOperand

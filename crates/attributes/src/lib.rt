@@ -1,5 +1,13 @@
 // Attributes tables: from a VGA attribute byte to its cell.
 use basics::Refusal;
+use lines::Opening;
+ghost use mathlib.Core.Path.{_≡_};
+ghost use Prim.Native.Nat.{_+_, _≤_, _<_, _^_};
+ghost use lib.ListN.{length};
+ghost use Rattle.attributes.specs.Cells.{bitOf, isOn, isRaised, attributeCell, place, allUnnamed};
+ghost use Rattle.attributes.specs.Reader.{signed, backgroundState, namedState, stateOf, isDotNumber, stateAt, dotAt, dotLine};
+ghost use Rattle.attributes.specs.Compile.{isNamed, readLine, withDot, step, steppedTo, compiled, outcomeReply, attributesReply, outcomePlaces, DotWithin};
+ghost use Rattle.lines.specs.Lines.{withoutCR};
 
 // The eight attribute bits.
 pub enum Attribute {
@@ -49,4 +57,338 @@ pub enum DotLine {
     Fault(Refusal, usize),
     Nothing,
     Dot(usize, State, usize),
+}
+
+// The places so far, and how many `dot` lines filled them.
+pub struct Filled {
+    pub places: [Place; 8],
+    pub lines: usize,
+}
+
+// Whether a line was refused.
+pub enum Stopped {
+    No,
+    By(Refusal),
+}
+
+// What a line leaves: the state as it was, where the line was refused.
+pub struct Stepped {
+    pub stopped: Stopped,
+    pub filled: Filled,
+}
+
+// The bit of an attribute.
+fn bit_of(name: Attribute) -> u8
+    ensures { λ r. ⌜ (r ≡ bitOf name) × (0 < r) ⌝ }
+{
+    match name {
+        Attribute::FgBlue => 0x01,
+        Attribute::FgGreen => 0x02,
+        Attribute::FgRed => 0x04,
+        Attribute::FgBright => 0x08,
+        Attribute::BgBlue => 0x10,
+        Attribute::BgGreen => 0x20,
+        Attribute::BgRed => 0x40,
+        Attribute::Blink => 0x80,
+    }
+}
+
+fn is_on(name: Attribute, byte: u8) -> bool
+    ensures { λ r. ⌜ r ≡ isOn name byte ⌝ }
+{
+    let bit = bit_of(name);
+    byte / bit % 2 == 1
+}
+
+// Whether a dot of that state is raised; `unnamed` says it of a dot without a line.
+fn is_raised(unnamed: bool, state: State, byte: u8) -> bool
+    ensures { λ r. ⌜ r ≡ isRaised unnamed state byte ⌝ }
+{
+    match state {
+        State::Unnamed => unnamed,
+        State::On(name) => is_on(name, byte),
+        State::Off(name) => !is_on(name, byte),
+    }
+}
+
+// The weight of dot `i` + 1.
+fn weight(i: usize) -> u16
+    requires { ⌜ i < 8 ⌝ }
+    ensures { λ r. ⌜ r ≡ 2 ^ i ⌝ }
+{
+    match i {
+        0 => 1,
+        1 => 2,
+        2 => 4,
+        3 => 8,
+        4 => 16,
+        5 => 32,
+        6 => 64,
+        _ => 128,
+    }
+}
+
+// The cell of an attribute byte.
+pub fn attribute_cell(places: [Place; 8], byte: u8) -> u8
+    ensures { λ r. ⌜ r ≡ attributeCell places byte ⌝ }
+{
+    let mut cell = 0u16;
+    let mut i = 0;
+    while i < 8 {
+        let here = places[i];
+        let state = here.state;
+        if is_raised(false, state, byte) {
+            cell += weight(i);
+        }
+        i += 1;
+    }
+    (cell % 256) as u8
+}
+
+// The state that a sign says of a name.
+fn signed_state(sign: u8, name: Attribute) -> StateOperand
+    ensures { λ r. ⌜ r ≡ signed sign name ⌝ }
+{
+    if sign == b'=' {
+        return StateOperand::Is(State::On(name));
+    }
+    if sign == b'~' {
+        return StateOperand::Is(State::Off(name));
+    }
+    StateOperand::Bad
+}
+
+// The state of a name of the background, or of `blink`.
+fn background_state(sign: u8, name: &[u8]) -> StateOperand
+    ensures { λ r. ⌜ r ≡ backgroundState sign (now (name .entry)) ⌝ }
+{
+    if lines::same_bytes(name, b"bg-blue") {
+        return signed_state(sign, Attribute::BgBlue);
+    }
+    if lines::same_bytes(name, b"bg-green") {
+        return signed_state(sign, Attribute::BgGreen);
+    }
+    if lines::same_bytes(name, b"bg-red") {
+        return signed_state(sign, Attribute::BgRed);
+    }
+    if lines::same_bytes(name, b"blink") {
+        return signed_state(sign, Attribute::Blink);
+    }
+    StateOperand::Bad
+}
+
+// The state of any name.
+fn named_state(sign: u8, name: &[u8]) -> StateOperand
+    ensures { λ r. ⌜ r ≡ namedState sign (now (name .entry)) ⌝ }
+{
+    if lines::same_bytes(name, b"fg-blue") {
+        return signed_state(sign, Attribute::FgBlue);
+    }
+    if lines::same_bytes(name, b"fg-green") {
+        return signed_state(sign, Attribute::FgGreen);
+    }
+    if lines::same_bytes(name, b"fg-red") {
+        return signed_state(sign, Attribute::FgRed);
+    }
+    if lines::same_bytes(name, b"fg-bright") {
+        return signed_state(sign, Attribute::FgBright);
+    }
+    background_state(sign, name)
+}
+
+// A whole word as a state.
+fn state_of(w: &[u8]) -> StateOperand
+    ensures { λ r. ⌜ r ≡ stateOf (now (w .entry)) ⌝ }
+{
+    if w.len() == 0 {
+        return StateOperand::Bad;
+    }
+    named_state(w[0], &w[1..])
+}
+
+// Whether a word is one digit 1 to 8.
+fn is_dot_number(w: &[u8]) -> bool
+    ensures { λ r. ⌜ r ≡ isDotNumber (now (w .entry)) ⌝ }
+{
+    if w.len() != 1 {
+        return false;
+    }
+    if w[0] < b'1' {
+        return false;
+    }
+    w[0] <= b'8'
+}
+
+// A line from behind the dot number on.
+fn state_at(line: &[u8], dot: usize, at: usize, left: usize) -> DotLine
+    requires { ⌜ at ≤ length (now line) ⌝ }
+    ensures { λ r. ⌜ r ≡ stateAt (now (line .entry)) dot at left ⌝ }
+{
+    let w = lines::next_word(line, at);
+    let start = w.start;
+    let end = w.end;
+    if start == end {
+        return DotLine::Fault(Refusal::MissingOperand, 0);
+    }
+    match state_of(&line[start..end]) {
+        StateOperand::Bad => DotLine::Fault(Refusal::BadState, line.len() - start),
+        StateOperand::Is(state) => {
+            if lines::is_over(line, end) {
+                return DotLine::Dot(dot, state, left);
+            }
+            let more = lines::next_word(line, end);
+            DotLine::Fault(Refusal::TrailingText, line.len() - more.start)
+        }
+    }
+}
+
+// A line from behind the word `dot` on.
+fn dot_at(line: &[u8], at: usize, left: usize) -> DotLine
+    requires { ⌜ at ≤ length (now line) ⌝ }
+    ensures { λ r. ⌜ r ≡ dotAt (now (line .entry)) at left ⌝ }
+    ensures { λ r. ⌜ DotWithin r ⌝ }
+{
+    let w = lines::next_word(line, at);
+    let start = w.start;
+    let end = w.end;
+    if start == end {
+        return DotLine::Fault(Refusal::MissingOperand, 0);
+    }
+    if !is_dot_number(&line[start..end]) {
+        return DotLine::Fault(Refusal::BadDots, line.len() - start);
+    }
+    state_at(line, (line[start] - b'1') as usize, end, left)
+}
+
+// A line that is no comment, from its first word on.
+fn dot_line(line: &[u8]) -> DotLine
+    ensures { λ r. ⌜ r ≡ dotLine (now (line .entry)) ⌝ }
+    ensures { λ r. ⌜ DotWithin r ⌝ }
+{
+    let w = lines::next_word(line, 0);
+    let start = w.start;
+    let end = w.end;
+    let left = line.len() - start;
+    if lines::same_bytes(&line[start..end], b"dot") {
+        return dot_at(line, end, left);
+    }
+    DotLine::Fault(Refusal::UnknownDirective, left)
+}
+
+// A whole line, without its end.
+fn read_line(line: &[u8]) -> DotLine
+    ensures { λ r. ⌜ r ≡ readLine (now (line .entry)) ⌝ }
+    ensures { λ r. ⌜ DotWithin r ⌝ }
+{
+    match lines::open_line(line) {
+        Opening::Fault(refusal, left) => DotLine::Fault(refusal, left),
+        Opening::Skip => DotLine::Nothing,
+        Opening::Directive => dot_line(line),
+    }
+}
+
+fn is_named(state: State) -> bool
+    ensures { λ r. ⌜ r ≡ isNamed state ⌝ }
+{
+    match state {
+        State::Unnamed => false,
+        State::On(_) => true,
+        State::Off(_) => true,
+    }
+}
+
+// The state with a dot's line more, unless that dot has one.
+fn with_dot(f: Filled, read: DotLine) -> Stepped
+    requires { ⌜ (DotWithin read) × (f .lines < 65536) ⌝ }
+    ensures { λ r. ⌜ steppedTo r ≡ withDot f read ⌝ }
+    ensures { λ r. ⌜ r .filled .lines ≤ f .lines + 1 ⌝ }
+{
+    match read {
+        DotLine::Fault(refusal, _) => Stepped {
+            stopped: Stopped::By(refusal),
+            filled: f,
+        },
+        DotLine::Nothing => Stepped {
+            stopped: Stopped::No,
+            filled: f,
+        },
+        DotLine::Dot(dot, state, _) => {
+            let mut places = f.places;
+            let old = places[dot];
+            let before = old.state;
+            if is_named(before) {
+                return Stepped {
+                    stopped: Stopped::By(Refusal::AlreadyDefined),
+                    filled: f,
+                };
+            }
+            places[dot] = Place { state };
+            Stepped {
+                stopped: Stopped::No,
+                filled: Filled {
+                    places,
+                    lines: f.lines + 1,
+                },
+            }
+        }
+    }
+}
+
+// The state after one line more, its LF not in it.
+fn step_line(f: Filled, line: &[u8]) -> Stepped
+    requires { ⌜ f .lines < 65536 ⌝ }
+    ensures { λ r. ⌜ steppedTo r ≡ step f (withoutCR (now (line .entry))) ⌝ }
+    ensures { λ r. ⌜ r .filled .lines ≤ f .lines + 1 ⌝ }
+{
+    let n = lines::trimmed(line);
+    with_dot(f, read_line(&line[..n]))
+}
+
+// A refused table: all dots unnamed.
+fn refused_table(refusal: Refusal, line: usize) -> Attributes
+    ensures { λ r. ⌜ (r .answer ≡ AttributesAnswer.Refused refusal line) × (r .places ≡ allUnnamed) ⌝ }
+{
+    Attributes {
+        answer: AttributesAnswer::Refused(refusal, line),
+        places: [Place {
+            state: State::Unnamed,
+        }; 8],
+    }
+}
+
+// Compiles an attributes text: any bytes.
+pub fn compile_attributes(text: &[u8]) -> Attributes
+    ensures answer { λ r. ⌜ attributesReply (r .answer) ≡ outcomeReply (compiled (now (text .entry))) ⌝ }
+    ensures places { λ r. ⌜ r .places ≡ outcomePlaces (compiled (now (text .entry))) ⌝ }
+{
+    if 65536 < text.len() {
+        return refused_table(Refusal::TextTooLong, 0);
+    }
+    let none = [Place {
+        state: State::Unnamed,
+    }; 8];
+    let mut filled = Filled {
+        places: none,
+        lines: 0,
+    };
+    let mut line = 1;
+    let mut at = 0;
+    while at < text.len() {
+        let end = lines::line_end(text, at);
+        let next = step_line(filled, &text[at..end]);
+        let stopped = next.stopped;
+        match stopped {
+            Stopped::By(refusal) => return refused_table(refusal, line),
+            Stopped::No => {
+                filled = next.filled;
+            }
+        }
+        at = end + 1;
+        line += 1;
+    }
+    let places = filled.places;
+    Attributes {
+        answer: AttributesAnswer::Accepted(filled.lines),
+        places,
+    }
 }

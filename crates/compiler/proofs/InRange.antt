@@ -1,4 +1,4 @@
--- A definition that a line gives is in range, and one that takes effect is admitted.
+-- A definition that a line gives is in range.
 use Prim.Native.Nat.{ℕ, zero, suc, _-_, _<_}
 use mathlib.Core.Path.{_≡_, refl}
 use mathlib.Core.Bool.{Bool, true, false}

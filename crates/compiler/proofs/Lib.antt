@@ -1,2 +1,6 @@
+pub mod Conditions
+pub mod Reader
 pub mod InRange
 pub mod Texts
+pub mod Words
+pub mod Call

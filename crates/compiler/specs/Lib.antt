@@ -1,3 +1,4 @@
 pub mod Conditions
 pub mod Reader
 pub mod Compile
+pub mod Progress

@@ -3,7 +3,7 @@ use mathlib.Core.Path.{_≡_, refl}
 use mathlib.Core.Bool.{true}
 use Rattle.attributes.specs.Cells.{cellFrom}
 use Rattle.attributes.specs.Compile.{readLine as readLine-attributes, step as step-attributes, compiled as compiled-attributes}
-use Rattle.attributes.specs.Reader.{namedState, stateOf, stateAt, dotAt, dotLine}
+use Rattle.attributes.specs.Reader.{backgroundState, namedState, stateOf, stateAt, dotAt, dotLine}
 use Rattle.compiler.specs.Compile.{readLine as readLine-compiler, lineEffect, step as step-compiler, compiled as compiled-compiler, effects, compileReply, compileWords}
 use Rattle.compiler.specs.Conditions.{hasGlyph, hasCell}
 use Rattle.compiler.specs.Reader.{conditionOf, directiveOf, finished, dotsLine, aliasLine, glyphCondition, cellCondition, frontOf, ifHolds, readFrom}
@@ -25,5 +25,5 @@ use Rattle.unicode.specs.Characters.{localOf, standsFor}
 use Rattle.unicode.specs.Utf8.{afterFirst, afterFurther, utf8From}
 
 pub marked-cases : everyOne marked ≡ true
-unfolding cellFrom readLine-attributes step-attributes compiled-attributes namedState stateOf stateAt dotAt dotLine readLine-compiler lineEffect step-compiler compiled-compiler effects compileReply compileWords hasGlyph hasCell conditionOf directiveOf finished dotsLine aliasLine glyphCondition cellCondition frontOf ifHolds readFrom find explicit aliasOf walkWithin walk aliases typedIn verdictOf wordsFor comesOut everyOne linesOf withoutCR openingOf runLines runText isBlank firstFrom firstAt wordAt sameBytes isOver lookupReply firstNoScalar pagePlan candidates choose rulesFrom3 lookup digitOf withDigit digitsFrom plainOf shortOf radixOf numberOf characterOf byteOf raiseBy raise raiseInside endsAt digitsAt insideAt cellAt dotsAt characterAt dotsOperandAt zeroFrom checkFrom checkOf lentTable wordsOf isSoundWord meaningOf definitions entriesFrom localOf standsFor afterFirst afterFurther utf8From
+unfolding cellFrom readLine-attributes step-attributes compiled-attributes backgroundState namedState stateOf stateAt dotAt dotLine readLine-compiler lineEffect step-compiler compiled-compiler effects compileReply compileWords hasGlyph hasCell conditionOf directiveOf finished dotsLine aliasLine glyphCondition cellCondition frontOf ifHolds readFrom find explicit aliasOf walkWithin walk aliases typedIn verdictOf wordsFor comesOut everyOne linesOf withoutCR openingOf runLines runText isBlank firstFrom firstAt wordAt sameBytes isOver lookupReply firstNoScalar pagePlan candidates choose rulesFrom3 lookup digitOf withDigit digitsFrom plainOf shortOf radixOf numberOf characterOf byteOf raiseBy raise raiseInside endsAt digitsAt insideAt cellAt dotsAt characterAt dotsOperandAt zeroFrom checkFrom checkOf lentTable wordsOf isSoundWord meaningOf definitions entriesFrom localOf standsFor afterFirst afterFurther utf8From
 marked-cases = refl

@@ -1,1 +1,3 @@
 pub mod WholeWalks
+pub mod Choices
+pub mod Replies

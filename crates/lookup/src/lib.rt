@@ -1,5 +1,18 @@
-// From a character to its cell: the lookup call and the page call.
+// From a character to its cell: the nine rules, the lookup call and the page call.
+use basics::Maybe;
 use basics::Refusal;
+use definitions::Cell;
+use table::Checked;
+ghost use mathlib.Core.Path.{_≡_};
+ghost use mathlib.Core.List.{[], _∷_, map};
+ghost use Prim.Native.Nat.{_+_, _*_, _≤_, _<_};
+ghost use lib.ListN.{length};
+ghost use Rattle.unicode.specs.Characters.{localOf, baseOf, standInOf};
+ghost use Rattle.definitions.specs.Definitions.{table, explicit};
+ghost use Rattle.table.specs.Words.{definitions};
+ghost use Rattle.table.specs.Check.{lentTable};
+ghost use Rattle.lookup.specs.Rules.{explicitOf, choose, rulesFrom3, lookup};
+ghost use Rattle.lookup.specs.Calls.{lookupReply, lookedReply, LentWhole, firstNoScalar, pagePlan, pageReply, pagedReply, over, pageCells, pageRules};
 
 // A cell, the number of the rule that gave it, and the length of the alias walk.
 pub struct Answer {
@@ -24,4 +37,188 @@ pub enum Paged {
 pub enum NoScalar {
     Nowhere,
     At(usize),
+}
+
+// The explicit cell of a character that there may be.
+fn explicit_of(words: &[u32], count: usize, other: Maybe) -> Cell
+    requires { ⌜ 2 * count ≤ length (now words) ⌝ }
+    ensures { λ r. ⌜ r ≡ explicitOf (table (definitions count (now (words .entry)))) other ⌝ }
+{
+    match other {
+        Maybe::Nothing => Cell::Absent,
+        Maybe::Character(c) => table::explicit_cell(words, count, c),
+    }
+}
+
+// Rules 7 to 9.
+fn last_rules(words: &[u32], count: usize, links: usize) -> Answer
+    requires { ⌜ 2 * count ≤ length (now words) ⌝ }
+    ensures { λ r. ⌜ r ≡ choose 7 (explicit (table (definitions count (now (words .entry)))) 0xFFFD ∷ explicit (table (definitions count (now (words .entry)))) 0x3F ∷ []) links ⌝ }
+{
+    if let Cell::Dots(cell) = table::explicit_cell(words, count, 0xFFFD) {
+        return Answer {
+            cell,
+            rule: 7,
+            links,
+        };
+    }
+    if let Cell::Dots(cell) = table::explicit_cell(words, count, 0x3F) {
+        return Answer {
+            cell,
+            rule: 8,
+            links,
+        };
+    }
+    Answer {
+        cell: 255,
+        rule: 9,
+        links,
+    }
+}
+
+// Rules 5 to 9.
+fn later_rules(words: &[u32], count: usize, c: u32, links: usize) -> Answer
+    requires { ⌜ 2 * count ≤ length (now words) ⌝ }
+    ensures { λ r. ⌜ r ≡ choose 5 (explicitOf (table (definitions count (now (words .entry)))) (baseOf c) ∷ explicitOf (table (definitions count (now (words .entry)))) (standInOf c) ∷ explicit (table (definitions count (now (words .entry)))) 0xFFFD ∷ explicit (table (definitions count (now (words .entry)))) 0x3F ∷ []) links ⌝ }
+{
+    match explicit_of(words, count, unicode::base_of(c)) {
+        Cell::Dots(cell) => Answer {
+            cell,
+            rule: 5,
+            links,
+        },
+        Cell::Absent => match explicit_of(words, count, unicode::stand_in_of(c)) {
+            Cell::Dots(cell) => Answer {
+                cell,
+                rule: 6,
+                links,
+            },
+            Cell::Absent => last_rules(words, count, links),
+        },
+    }
+}
+
+// Rules 3 to 9, for a character as it stands after rule 2.
+fn rules_from_3(words: &[u32], count: usize, c: u32) -> Answer
+    requires { ⌜ 2 * count ≤ length (now words) ⌝ }
+    ensures { λ r. ⌜ r ≡ rulesFrom3 (table (definitions count (now (words .entry)))) c ⌝ }
+{
+    let w = table::walk_from(words, count, c);
+    let links = w.links;
+    let end = w.cell;
+    match end {
+        Cell::Absent => later_rules(words, count, c, links),
+        Cell::Dots(cell) => {
+            if links == 0 {
+                return Answer {
+                    cell,
+                    rule: 3,
+                    links,
+                };
+            }
+            Answer {
+                cell,
+                rule: 4,
+                links,
+            }
+        }
+    }
+}
+
+// The answer for a scalar value, by all the rules.
+pub fn answer_of(words: &[u32], count: usize, c: u32) -> Answer
+    requires { ⌜ 2 * count ≤ length (now words) ⌝ }
+    ensures { λ r. ⌜ r ≡ lookup (table (definitions count (now (words .entry)))) c ⌝ }
+{
+    if unicode::is_braille(c) {
+        return Answer {
+            cell: (c % 256) as u8,
+            rule: 1,
+            links: 0,
+        };
+    }
+    let a = rules_from_3(words, count, unicode::local_of(c));
+    if unicode::is_private(c) {
+        return Answer {
+            cell: a.cell,
+            rule: a.rule + 16,
+            links: a.links,
+        };
+    }
+    a
+}
+
+// The lookup call: any slice, any number.
+pub fn look_up(words: &[u32], c: u32) -> Looked
+    ensures answer { λ r. ⌜ lookedReply r ≡ lookupReply (now (words .entry)) c ⌝ }
+    ensures links { λ r. ⌜ LentWhole (lentTable (now (words .entry))) (localOf c) ⌝ }
+{
+    if words.len() < 2048 {
+        return Looked::Refused(Refusal::ShortSlice, 0);
+    }
+    match table::check_table(words) {
+        Checked::FaultAt(pair) => Looked::Refused(Refusal::NotTable, pair),
+        Checked::Sound(count) => {
+            if unicode::is_scalar(c) {
+                return Looked::Shown(answer_of(words, count, c));
+            }
+            Looked::Refused(Refusal::NotScalar, 0)
+        }
+    }
+}
+
+// The first character that is no scalar value.
+fn first_no_scalar(characters: &[u32]) -> NoScalar
+    ensures { λ r. ⌜ r ≡ firstNoScalar (now (characters .entry)) 0 ⌝ }
+{
+    let mut i = 0;
+    while i < characters.len() {
+        if !unicode::is_scalar(characters[i]) {
+            return NoScalar::At(i);
+        }
+        i += 1;
+    }
+    NoScalar::Nowhere
+}
+
+// Fills both buffers, a cell and a rule for each character.
+fn fill(words: &[u32], count: usize, characters: &[u32], cells: &mut [u8], rules: &mut [u8])
+    requires { ⌜ (2 * count ≤ length (now words)) × (length (now characters) ≤ length (now cells)) × (length (now characters) ≤ length (now rules)) ⌝ }
+    ensures cells { λ r. ⌜ now (cells .exit) ≡ over (map (λ c. lookup (table (definitions count (now (words .entry)))) c .cell) (now (characters .entry))) (now (cells .entry)) ⌝ }
+    ensures rules { λ r. ⌜ now (rules .exit) ≡ over (map (λ c. lookup (table (definitions count (now (words .entry)))) c .rule) (now (characters .entry))) (now (rules .entry)) ⌝ }
+{
+    let mut i = 0;
+    while i < characters.len() {
+        let a = answer_of(words, count, characters[i]);
+        cells[i] = a.cell;
+        rules[i] = a.rule;
+        i += 1;
+    }
+}
+
+// The page call: any slices.
+pub fn page(words: &[u32], characters: &[u32], cells: &mut [u8], rules: &mut [u8]) -> Paged
+    ensures answer { λ r. ⌜ pagedReply r ≡ pageReply (pagePlan (now (words .entry)) (now (characters .entry)) (length (now (cells .entry))) (length (now (rules .entry)))) ⌝ }
+    ensures cells { λ r. ⌜ now (cells .exit) ≡ pageCells (pagePlan (now (words .entry)) (now (characters .entry)) (length (now (cells .entry))) (length (now (rules .entry)))) (now (characters .entry)) (now (cells .entry)) ⌝ }
+    ensures rules { λ r. ⌜ now (rules .exit) ≡ pageRules (pagePlan (now (words .entry)) (now (characters .entry)) (length (now (cells .entry))) (length (now (rules .entry)))) (now (characters .entry)) (now (rules .entry)) ⌝ }
+{
+    if words.len() < 2048 {
+        return Paged::Refused(Refusal::ShortSlice, 0);
+    }
+    if cells.len() < characters.len() {
+        return Paged::Refused(Refusal::ShortSlice, 0);
+    }
+    if rules.len() < characters.len() {
+        return Paged::Refused(Refusal::ShortSlice, 0);
+    }
+    match table::check_table(words) {
+        Checked::FaultAt(pair) => Paged::Refused(Refusal::NotTable, pair),
+        Checked::Sound(count) => match first_no_scalar(characters) {
+            NoScalar::At(i) => Paged::Refused(Refusal::NotScalar, i),
+            NoScalar::Nowhere => {
+                fill(words, count, characters, cells, rules);
+                Paged::Filled
+            }
+        },
+    }
 }

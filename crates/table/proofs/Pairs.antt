@@ -47,7 +47,7 @@ rest n i ws = definitions (n - i) (drop (2 * i) ws)
 pub rest-all : (n : ℕ) (ws : List ℕ) → rest n 0 ws ≡ definitions n ws
 rest-all n ws = let a : n - 0 ≡ n = omega arith in rw a
 
-rest-none : (n i : ℕ) (ws : List ℕ) → n ≤ i → rest n i ws ≡ []
+pub rest-none : (n i : ℕ) (ws : List ℕ) → n ≤ i → rest n i ws ≡ []
 unfolding definitions
 rest-none n i ws h = let a : n - i ≡ 0 = omega arith in rw a
 
@@ -55,7 +55,7 @@ definitions-first : (n c w : ℕ) (ws : List ℕ) → definitions (suc n) (c ∷
 unfolding definitions
 definitions-first n c w ws = refl
 
-rest-more : (n i : ℕ) (ws : List ℕ) → i < n → 2 * n ≤ length ws → rest n i ws ≡ definitionOf (getD ws (2 * i) 0) (getD ws (2 * i + 1) 0) ∷ rest n (i + 1) ws
+pub rest-more : (n i : ℕ) (ws : List ℕ) → i < n → 2 * n ≤ length ws → rest n i ws ≡ definitionOf (getD ws (2 * i) 0) (getD ws (2 * i + 1) 0) ∷ rest n (i + 1) ws
 rest-more n i ws h l =
     let a : n - i ≡ suc (n - (i + 1)) = omega arith in
     let b : 2 * (i + 1) ≡ 2 * i + 2 = omega arith in
