@@ -20,10 +20,10 @@ use Rattle.operands.specs.Dots.{raiseBy, raise, raiseInside, endsAt, digitsAt, 
 use Rattle.operands.specs.Operands.{characterAt, dotsOperandAt}
 use Rattle.table.specs.Check.{zeroFrom, checkFrom, checkOf, lentTable}
 use Rattle.table.specs.Words.{wordsOf, isSoundWord, meaningOf, definitions}
-use Rattle.typing.specs.Typing.{entriesFrom}
+use Rattle.typing.specs.Typing.{filledFrom}
 use Rattle.unicode.specs.Characters.{localOf, standsFor}
 use Rattle.unicode.specs.Utf8.{afterFirst, afterFurther, utf8From}
 
 pub marked-cases : everyOne marked ≡ true
-unfolding cellFrom readLine-attributes step-attributes compiled-attributes backgroundState namedState stateOf stateAt dotAt dotLine readLine-compiler lineEffect step-compiler compiled-compiler effects compileReply compileWords hasGlyph hasCell conditionOf directiveOf finished dotsLine aliasLine glyphCondition cellCondition frontOf ifHolds readFrom find explicit aliasOf walkWithin walk aliases typedIn verdictOf wordsFor comesOut everyOne linesOf withoutCR openingOf runLines runText isBlank firstFrom firstAt wordAt sameBytes isOver lookupReply firstNoScalar pagePlan candidates choose rulesFrom3 lookup digitOf withDigit digitsFrom plainOf shortOf radixOf numberOf characterOf byteOf raiseBy raise raiseInside endsAt digitsAt insideAt cellAt dotsAt characterAt dotsOperandAt zeroFrom checkFrom checkOf lentTable wordsOf isSoundWord meaningOf definitions entriesFrom localOf standsFor afterFirst afterFurther utf8From
+unfolding cellFrom readLine-attributes step-attributes compiled-attributes backgroundState namedState stateOf stateAt dotAt dotLine readLine-compiler lineEffect step-compiler compiled-compiler effects compileReply compileWords hasGlyph hasCell conditionOf directiveOf finished dotsLine aliasLine glyphCondition cellCondition frontOf ifHolds readFrom find explicit aliasOf walkWithin walk aliases typedIn verdictOf wordsFor comesOut everyOne linesOf withoutCR openingOf runLines runText isBlank firstFrom firstAt wordAt sameBytes isOver lookupReply firstNoScalar pagePlan candidates choose rulesFrom3 lookup digitOf withDigit digitsFrom plainOf shortOf radixOf numberOf characterOf byteOf raiseBy raise raiseInside endsAt digitsAt insideAt cellAt dotsAt characterAt dotsOperandAt zeroFrom checkFrom checkOf lentTable wordsOf isSoundWord meaningOf definitions filledFrom localOf standsFor afterFirst afterFurther utf8From
 marked-cases = refl

@@ -1,5 +1,5 @@
 -- What the lookup call and the page call answer and write, as their tests and calls decide it.
-use Prim.Native.Nat.{ℕ, suc, _+_, _*_, _≤_, _<_}
+use Prim.Native.Nat.{ℕ, suc, _+_, _≤_, _<_}
 use mathlib.Core.Path.{_≡_, refl, sym, _∙_}
 use mathlib.Core.Bool.{Bool, true, false, not, _||_, or-true}
 use mathlib.Core.List.{List, [], _∷_, _++_, map, map-append, append-assoc}
@@ -18,32 +18,13 @@ use Rattle.definitions.specs.Definitions.{table}
 use Rattle.table.specs.declared.Checked.{Checked}
 use Rattle.table.specs.declared.Checked.the-variants.{Sound, FaultAt}
 use Rattle.table.specs.Words.{definitions}
-use Rattle.table.specs.Check.{checkOf, lentTable}
-use Rattle.table.proofs.Readback.{lent}
+use Rattle.table.specs.Check.{checkOf}
+use Rattle.table.proofs.Lent.{lent-short, lent-fault, lent-sound}
 use Rattle.lookup.specs.declared.Answer.{Answer}
 use Rattle.lookup.specs.declared.NoScalar.{NoScalar}
 use Rattle.lookup.specs.declared.NoScalar.the-variants.{Nowhere, At}
 use Rattle.lookup.specs.Rules.{lookup}
 use Rattle.lookup.specs.Calls.{lookupReply, firstNoScalar, unlessAt, pagePlan, pageReply, pageCells, pageRules, over}
-
--- ---- the lent slice
-
-module _ (ws : List ℕ) where
-  lent-short : length ws < 2048 → lentTable ws ≡ refused 2 0
-  unfolding lentTable
-  lent-short h = rw (lt-ltb (length ws) 2048 h)
-
-  lent-fault : (pair : ℕ) {r : Checked} → 2048 ≤ length ws → r ≡ checkOf ws → r ≡ FaultAt pair → lentTable ws ≡ refused 15 pair
-  unfolding lentTable
-  lent-fault pair h p q = rw (le-ltb (length ws) 2048 h, told p q)
-
-  lent-sound : (n : ℕ) {r : Checked} → 2048 ≤ length ws → r ≡ checkOf ws → r ≡ Sound n → lentTable ws ≡ answered (definitions n ws)
-  unfolding lentTable
-  lent-sound n h p q = rw (le-ltb (length ws) 2048 h, told p q)
-
-  -- its definitions lie within it
-  pub lent-fits : (n : ℕ) {r : Checked} → 2048 ≤ length ws → r ≡ checkOf ws → r ≡ Sound n → 2 * n ≤ length ws
-  lent-fits n h p q = lent ws n h (told p q) .fits
 
 -- ---- the lookup call
 

@@ -3,3 +3,4 @@ pub mod Walks
 pub mod Check
 pub mod Store
 pub mod Readback
+pub mod Lent

@@ -1,1 +1,2 @@
 pub mod TypedCells
+pub mod Calls

@@ -1,15 +1,16 @@
 -- Typing: what each of the 256 cells enters. Order of refusals: 2, 15.
-use Prim.Native.Nat.{ℕ, zero, suc, _+_}
+use Prim.Native.Nat.{ℕ}
 use mathlib.Core.List.{List, [], _∷_}
-use lib.ListN.{getD, replicate}
+use lib.ListN.{getD, set, replicate}
 use Rattle.basics.specs.Refusals.{numberOf, Reply, answered, refused, andThen}
 use Rattle.basics.specs.declared.Maybe.{Maybe}
-use Rattle.basics.specs.declared.Maybe.the-variants.{Nothing}
+use Rattle.basics.specs.declared.Maybe.the-variants.{Nothing, Character}
+use Rattle.definitions.specs.declared.Meaning.{Meaning}
+use Rattle.definitions.specs.declared.Meaning.the-variants.{Typed, Shown, Alias}
 use Rattle.definitions.specs.declared.Definition.{Definition}
-use Rattle.definitions.specs.Definitions.{typedIn}
 use Rattle.table.specs.Check.{lentTable}
 use Rattle.typing.specs.declared.Entry.{Entry}
-use Rattle.typing.specs.declared.Typed.{Typed}
+use Rattle.typing.specs.declared.Typed as Answer
 use Rattle.typing.specs.declared.Typed.the-variants.{Filled, Refused}
 
 abbrev pub entry : Maybe → Entry
@@ -19,20 +20,34 @@ entry typed = record { types = typed }
 abbrev pub nothing : Entry
 nothing = entry Nothing
 
--- the entries of n cells, the first of them the k-th
-unfoldable pub entriesFrom : List Definition → ℕ → ℕ → List Entry
-entriesFrom ds zero k = []
-entriesFrom ds (suc n) k = entry (typedIn ds k) ∷ entriesFrom ds n (k + 1)
+-- an entry with one `char` more for its cell: the earliest wins
+abbrev pub keptBy : Maybe → Entry → ℕ → Entry
+keptBy Nothing e c = entry (Character c)
+keptBy (Character earlier) e c = e
 
--- the entry table of some definitions
+abbrev pub keptIn : Entry → ℕ → Entry
+keptIn e c = keptBy (e .types) e c
+
+-- a `char` definition fills the entry of its cell, unless an earlier one did; nothing else is typed
+abbrev pub withMeaning : List Entry → ℕ → Meaning → List Entry
+withMeaning es c (Typed dots) = set es dots (keptIn (getD es dots nothing) c)
+withMeaning es c (Shown dots) = es
+withMeaning es c (Alias target) = es
+
+-- an entry table after some definitions more
+unfoldable pub filledFrom : List Definition → List Entry → List Entry
+filledFrom [] es = es
+filledFrom (d ∷ ds) es = filledFrom ds (withMeaning es (d .character) (d .meaning))
+
+-- the entry table of some definitions: 256 cells, each at first typing nothing
 abbrev pub entriesOf : List Definition → List Entry
-entriesOf ds = entriesFrom ds 256 0
+entriesOf ds = filledFrom ds (replicate 256 nothing)
 
 -- the typing call answers no value but the entries
 abbrev pub typingReply : List ℕ → Reply (Unit {0})
 typingReply ws = andThen (lentTable ws) (λ ds. answered tt)
 
-abbrev pub typedReply : Typed → Reply (Unit {0})
+abbrev pub typedReply : Answer.Typed → Reply (Unit {0})
 typedReply Filled = answered tt
 typedReply (Refused refusal place) = refused (numberOf refusal) place
 

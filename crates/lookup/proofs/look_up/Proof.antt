@@ -1,4 +1,5 @@
-use Rattle.lookup.proofs.Replies.{look-short, look-fault, look-shown, look-no-scalar, lent-fits}
+use Rattle.lookup.proofs.Replies.{look-short, look-fault, look-shown, look-no-scalar}
+use Rattle.table.proofs.Lent.{lent-fits}
 use Rattle.lookup.proofs.WholeWalks.{lent-whole}
 use borrow.Author.Needs.{needs}
 use Rattle.lookup.proofs.look_up.Statement.{statement}

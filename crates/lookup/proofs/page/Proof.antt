@@ -1,4 +1,5 @@
-use Rattle.lookup.proofs.Replies.{lent-fits, page-short-words, page-short-cells, page-short-rules, page-fault, page-no-scalar, page-filled}
+use Rattle.lookup.proofs.Replies.{page-short-words, page-short-cells, page-short-rules, page-fault, page-no-scalar, page-filled}
+use Rattle.table.proofs.Lent.{lent-fits}
 use borrow.Author.Needs.{needs}
 use Rattle.lookup.proofs.page.Statement.{statement}
 use Rattle.lookup.proofs.page.Tie as tie

@@ -1,0 +1,94 @@
+-- Demand 3: growing a table never spoils an answer, from the bytes of two texts to the answers on the two tables' words.
+use Prim.Native.Nat.{ℕ}
+use mathlib.Core.Path.{_≡_, sym, _∙_}
+use mathlib.Core.Bool.{true, false}
+use mathlib.Core.List.{List, [], _++_}
+use lib.ListN.{length, getD, drop}
+use Rattle.basics.specs.Refusals.{answered}
+use Rattle.unicode.specs.Characters.{isScalar, localOf}
+use Rattle.lines.specs.Lines.{linesOf}
+use Rattle.lines.specs.Texts.{accepted}
+use Rattle.definitions.specs.declared.Definition.{Definition}
+use Rattle.definitions.specs.Definitions.{table}
+use Rattle.definitions.specs.Effects.{isDefined}
+use Rattle.definitions.proofs.Admission.{Admits}
+use Rattle.table.specs.Words.{tableWords}
+use Rattle.table.specs.Check.{lentTable}
+use Rattle.table.proofs.Readback.{image-lent}
+use Rattle.lookup.specs.Rules.{lookup}
+use Rattle.lookup.specs.Calls.{lookupReply}
+use Rattle.typing.specs.Typing.{nothing, entriesOf, typingReply, typedBy}
+use Rattle.typing.proofs.TypedCells.{stays-typed}
+use Rattle.compiler.specs.Compile.{compiled, effects, compileWords}
+use Rattle.compiler.proofs.Texts.{AnsweredText, whole-took, grown-took, text-answered, accepted-words}
+use Rattle.growth.specs.Growth.{accepting, NotAdded, Apart, Lookups, Typings, Growing, NeverSpoils}
+use Rattle.growth.proofs.Rules.{Each, lookup-grown, lookup-same}
+
+-- what is known of a lent slice whose table is ds
+module _ (ws : List ℕ) (ds : List Definition) (lent : lentTable ws ≡ answered ds) where
+  lookup-lent : (c : ℕ) → isScalar c ≡ true → lookupReply ws c ≡ answered (lookup (table ds) c)
+  unfolding lookupReply
+  lookup-lent c scalar = rw (lent, scalar)
+
+  typing-lent : typingReply ws ≡ answered tt
+  typing-lent = rw lent
+
+  typed-lent : (cell : ℕ) → typedBy ws cell ≡ getD (entriesOf ds) cell nothing .types
+  typed-lent cell = rw (lent, typedBy)
+
+-- a slice as compiled is the table of its text's definitions
+compiled-lent : (text slice : List ℕ) {count : ℕ} (a : AnsweredText text (length slice) count) → lentTable (compileWords text slice) ≡ answered (a .definitions)
+compiled-lent text slice a =
+    let took = whole-took text (a .compiles) in
+    rw (accepted-words text slice (a .enough) (a .compiles)) (image-lent (a .definitions) (took .admits) (took .fit) (drop tableWords slice))
+
+-- where no added definition is for what an answer goes by, in terms of the definitions of the first text
+apart-each : (text more : List ℕ) {ds : List Definition} → compiled text ≡ accepted ds → (c : ℕ) → Apart text more c
+    → Each (table ds) (λ x. isDefined (effects ds (linesOf more)) x ≡ false) c
+apart-each text more e c a =
+    let each : Each (table (accepting (compiled text))) (λ x. NotAdded text more x) c =
+    record { own = a .own; base = a .base; standIn = a .standIn; end = a .end; replacement = a .replacement; question = a .question } in
+    rw e at each
+
+-- two slices that are the tables of a text and of the same with bytes after it
+module _ (text more first grown : List ℕ) (ds : List Definition) (e : compiled text ≡ accepted ds)
+    (h : Admits [] (ds ++ effects ds (linesOf more)))
+    (lent : lentTable first ≡ answered ds) (lent′ : lentTable grown ≡ answered (ds ++ effects ds (linesOf more))) where
+  lookups : (c : ℕ) → isScalar c ≡ true → Lookups text more first grown c
+  lookups c scalar =
+      let rs = effects ds (linesOf more) in
+      let kept = lookup-grown ds rs h c in
+      record {
+        before = lookup (table ds) c;
+        after = lookup (table (ds ++ rs)) c;
+        answers-before = lookup-lent first ds lent c scalar;
+        answers-after = lookup-lent grown (ds ++ rs) lent′ c scalar;
+        rule-falls-or-stays = kept .rule;
+        same-rule-same-cell = kept .cell;
+        same-where-apart = λ a. lookup-same ds rs h c (apart-each text more e (localOf c) a);
+      }
+
+  typings : Typings first grown
+  typings =
+      let rs = effects ds (linesOf more) in
+      record {
+        answers-before = typing-lent first ds lent;
+        answers-after = typing-lent grown (ds ++ rs) lent′;
+        types-the-same = λ cell c l p. typed-lent grown (ds ++ rs) lent′ cell ∙ stays-typed ds rs cell (sym (typed-lent first ds lent cell) ∙ p);
+      }
+
+-- the whole claim
+pub never-spoils : (text more slice slice′ : List ℕ) → Growing text more slice slice′ → NeverSpoils text more slice slice′
+never-spoils text more slice slice′ g =
+    let a = text-answered text (length slice) (g .accepts) in
+    let b = text-answered (text ++ more) (length slice′) (g .accepts′) in
+    let took = grown-took text more (g .ended) (a .compiles) (b .compiles) in
+    let h = rw (took .after) at (whole-took (text ++ more) (b .compiles) .admits) in
+    let lent = compiled-lent text slice a in
+    let lent′ = rw (took .after) at (compiled-lent (text ++ more) slice′ b) in
+    let first = compileWords text slice in
+    let grown = compileWords (text ++ more) slice′ in
+    record {
+      shown = lookups text more first grown (a .definitions) (a .compiles) h lent lent′;
+      typed = typings text more first grown (a .definitions) (a .compiles) h lent lent′;
+    }
