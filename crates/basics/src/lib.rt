@@ -1,4 +1,6 @@
-// What every call shares: the refusals by name, and a character that there may be.
+// What every call shares: the refusals by name and number, and a character that there may be.
+ghost use mathlib.Core.Path.{_≡_};
+ghost use Rattle.basics.specs.Refusals.{numberOf};
 
 // Why a call refuses. `numberOf` in specs/Refusals.antt gives each its number.
 pub enum Refusal {
@@ -24,4 +26,28 @@ pub enum Refusal {
 pub enum Maybe {
     Nothing,
     Character(u32),
+}
+
+// The number of a refusal.
+pub fn number_of(refusal: Refusal) -> u8
+    ensures { λ r. ⌜ r ≡ numberOf refusal ⌝ }
+{
+    match refusal {
+        Refusal::TextTooLong => 1,
+        Refusal::ShortSlice => 2,
+        Refusal::LineTooLong => 3,
+        Refusal::NotUtf8 => 4,
+        Refusal::UnknownDirective => 5,
+        Refusal::MissingOperand => 6,
+        Refusal::BadCharacter => 7,
+        Refusal::BadDots => 8,
+        Refusal::TrailingText => 9,
+        Refusal::TooManyConditions => 10,
+        Refusal::AlreadyDefined => 11,
+        Refusal::AliasLoop => 12,
+        Refusal::TableFull => 13,
+        Refusal::NotScalar => 14,
+        Refusal::NotTable => 15,
+        Refusal::BadState => 16,
+    }
 }

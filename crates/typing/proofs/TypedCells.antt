@@ -17,7 +17,7 @@ use Rattle.typing.specs.declared.Entry.{Entry}
 use Rattle.typing.specs.Typing.{nothing, keptIn, withMeaning, filledFrom, entriesOf}
 
 meaning-length : (es : List Entry) (c : ℕ) (m : Meaning) → length (withMeaning es c m) ≡ length es
-meaning-length es c (Typed dots) = length-set es dots (keptIn (getD es dots nothing) c)
+meaning-length es c (Typed dots) = simp length-set
 meaning-length es c (Shown dots) = refl
 meaning-length es c (Alias target) = refl
 
@@ -46,7 +46,11 @@ entries-more ds d = filled-append ds (d ∷ []) (replicate 256 nothing) ∙ fill
 
 -- ---- a typed cell stays typed
 
--- one definition more leaves its entry
+-- the entry of a typed cell is kept
+kept-stays : (e : Entry) (x : ℕ) {c : ℕ} → e .types ≡ Character c → keptIn e x ≡ e
+kept-stays e x h = rw h
+
+-- so one definition more leaves it
 meaning-stays : (es : List Entry) (x : ℕ) (m : Meaning) (cell : ℕ) {c : ℕ} → getD es cell nothing .types ≡ Character c
     → getD (withMeaning es x m) cell nothing .types ≡ Character c
 meaning-stays es x (Shown dots) cell e = e
@@ -54,7 +58,7 @@ meaning-stays es x (Alias target) cell e = e
 meaning-stays es x (Typed dots) cell {c} e = go (eqb cell dots) refl
   where
     go : (b : Bool) → eqb cell dots ≡ b → getD (set es dots (keptIn (getD es dots nothing) x)) cell nothing .types ≡ Character c
-    go true p = rw (← eqb-true cell dots p, e, set-getD es cell nothing) e
+    go true p = rw (← eqb-true cell dots p, kept-stays (getD es cell nothing) x e, set-getD es cell nothing) e
     go false p = rw (getD-set-other es dots cell (keptIn (getD es dots nothing) x) nothing (eqb-false cell dots p)) e
 
 filled-stays : (rs : List Definition) (es : List Entry) (cell : ℕ) {c : ℕ} → getD es cell nothing .types ≡ Character c

@@ -85,7 +85,7 @@ loop-again c =
     let fits : 2 * l .i + 1 < length (a .words .now) = omega arith in
     let filled : c .match .entries ≡ entriesOf (definitions (l .i + 1) (a .words .now)) =
     scan-on (a .words .now) (l .i) fits (l .inv .3) (c .before .meaning-of .ensures)
-    (⊎-elim (λ w. rw (w .1 .given .1, ← w .5 .ensures) (w .6)) (λ r. ⊎-elim (λ w. rw (w .1 .given .1) (w .2)) (λ w. rw (w .1 .given .1) (w .2)) r) (c .match .came)) in
+    (⊎-elim (λ w. rw (w .1 .given .1) (rw (w .5 .ensures) at (w .6))) (λ r. ⊎-elim (λ w. rw (w .1 .given .1) (w .2)) (λ w. rw (w .1 .given .1) (w .2)) r) (c .match .came)) in
     (omega arith, l .inv .1, rw filled (entries-256 _), filled)
 
 returns : tie.Need-returns Inv-loop μ-loop

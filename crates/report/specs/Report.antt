@@ -1,0 +1,35 @@
+-- What the program writes: `accepted N`, or `refused N line L`, and one LF after.
+use Prim.Native.Nat.{ℕ, zero, suc, _+_, _/_, _%_, _≤_}
+use mathlib.Core.Path.{_≡_}
+use mathlib.Core.Bool.{Bool, true, false}
+use mathlib.Core.List.{List, [], _∷_, _++_}
+use lib.ListN.{length, take}
+use lib.Dec.{ltb}
+use Rattle.basics.specs.Ascii.{ascii}
+use Rattle.basics.specs.Choice.{pick}
+use Rattle.basics.specs.Refusals.{Reply, answered, refused}
+use Rattle.report.specs.declared.Line.{Line}
+
+-- a number in decimal, of at most so many digits
+unfoldable pub decimalWithin : ℕ → ℕ → List ℕ
+decimalWithin zero n = []
+decimalWithin (suc room) n =
+    let front : List ℕ = decimalWithin room (n / 10) in
+    pick (ltb n 10) ((48 + n) ∷ []) (front ++ ((48 + n % 10) ∷ []))
+
+-- 20 digits hold any number of 64 bits
+abbrev pub decimal : ℕ → List ℕ
+decimal n = decimalWithin 20 n
+
+abbrev pub reportOf : Reply ℕ → List ℕ
+reportOf (answered count) = ascii "accepted " ++ (decimal count ++ ascii "\n")
+reportOf (refused number line) = ascii "refused " ++ (decimal number ++ (ascii " line " ++ (decimal line ++ ascii "\n")))
+
+-- the bytes of a line so far
+abbrev pub textOf : Line → List ℕ
+textOf l = take (l .length) (l .bytes)
+
+-- a line with a text more
+pub record Grown (line : Line) (more : List ℕ) (r : Line) : Type 0 where
+  pub text : textOf r ≡ textOf line ++ more
+  pub count : r .length ≡ line .length + length more

@@ -1,0 +1,41 @@
+/* Heathdapple: a proved reference for braille terminals.
+ *
+ * Link with libheathdapple.a (x86-64 Linux). Each pointer is valid for its length, in elements; buffers that are written
+ * lie apart from each other and from what is read. A length may be 0, with any non-null pointer.
+ *
+ * A refusal is number * 2^32 + place, with the numbers 1 to 16 of the papers; a place beyond 2^32 - 1 is given as 2^32 - 1.
+ * Every other answer is below 2^32.
+ */
+#ifndef HEATHDAPPLE_H
+#define HEATHDAPPLE_H
+
+#include <stddef.h>
+#include <stdint.h>
+
+#ifdef __cplusplus
+extern "C" {
+#endif
+
+/* Compiles a text table into the first 2,048 words. Answers the count of definitions, or a refusal with its line; a refusal
+ * zeroes the 2,048 words, but for 1 and 2, which touch nothing. Words beyond 2,048 are never touched. */
+uint64_t heathdapple_compile(const uint8_t *text, size_t text_length, uint32_t *words, size_t words_length);
+
+/* Looks a character up on a compiled table. Answers cell + 2^8 * rule + 2^16 * links, or a refusal with its place. */
+uint64_t heathdapple_look_up(const uint32_t *words, size_t words_length, uint32_t character);
+
+/* Fills a cell and a rule for each character of a page; bytes past the page's length stay. Answers 0, or a refusal with its
+ * place, which writes nothing. */
+uint64_t heathdapple_page(const uint32_t *words, size_t words_length, const uint32_t *characters, size_t characters_length,
+                          uint8_t *cells, size_t cells_length, uint8_t *rules, size_t rules_length);
+
+/* The character that a cell types on a compiled table: 0 for nothing, else the character + 1, or a refusal with its place. */
+uint64_t heathdapple_typed(const uint32_t *words, size_t words_length, uint8_t cell);
+
+/* The cell of a VGA attribute byte by an attributes table's text, or the refusal of that text with its line. */
+uint64_t heathdapple_attribute_cell(const uint8_t *text, size_t text_length, uint8_t byte);
+
+#ifdef __cplusplus
+}
+#endif
+
+#endif
