@@ -283,7 +283,7 @@ fn if_holds(holds: bool, reading: Reading) -> Reading
         return reading;
     }
     match reading {
-        Reading::Fault(refusal, left) => Reading::Fault(refusal, left),
+        Reading::Fault(refusal, place) => Reading::Fault(refusal, place),
         Reading::Nothing => Reading::Nothing,
         Reading::Define(_, _) => Reading::Nothing,
     }
