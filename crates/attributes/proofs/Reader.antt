@@ -27,16 +27,6 @@ use Rattle.attributes.specs.declared.StateOperand.the-variants.{Bad, Is}
 use Rattle.attributes.specs.declared.DotLine.{DotLine}
 use Rattle.attributes.specs.declared.DotLine.the-variants.{Fault, Nothing, Dot}
 
--- r is what a call answered of a test
-module _ {A : Type 0} (r t : Bool) (a b v : A) (e : r ≡ t) where
-  pub chosen-first : r ≡ true → v ≡ a → v ≡ pick t a b
-  chosen-first q h = rw (← e, q) h
-
-  pub chosen-other : r ≡ false → v ≡ b → v ≡ pick t a b
-  chosen-other q h = rw (← e, q) h
-
-pub ruleset chosen = (chosen-first, chosen-other)
-
 -- no name is empty
 pub state-empty : (w : List ℕ) → length w ≡ 0 → Bad ≡ stateOf w
 unfolding stateOf namedState backgroundState sameBytes

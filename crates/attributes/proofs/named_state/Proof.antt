@@ -1,5 +1,5 @@
 use Rattle.attributes.specs.Reader.{namedState}
-use Rattle.attributes.proofs.Reader.{chosen}
+use Rattle.basics.proofs.Tests.{chosen}
 use borrow.Author.Needs.{needs}
 use Rattle.attributes.proofs.named_state.Statement.{statement}
 use Rattle.attributes.proofs.named_state.Tie as tie
