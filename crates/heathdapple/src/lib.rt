@@ -1,0 +1,119 @@
+// The calls exported for C and Rust. Each answers one number; specs/Codes.antt says how.
+use attributes::AttributesAnswer;
+use basics::Maybe;
+use basics::Refusal;
+use compiler::Compiled;
+use lookup::Answer;
+use lookup::Looked;
+use lookup::Paged;
+use typing::Typed;
+ghost use mathlib.Core.Path.{_≡_};
+ghost use Prim.Native.Nat.{_≤_};
+ghost use lib.ListN.{length};
+ghost use Rattle.basics.specs.Refusals.{numberOf};
+ghost use Rattle.compiler.specs.Compile.{compileReply, compileWords};
+ghost use Rattle.lookup.specs.Calls.{lookupReply, pagePlan, pageReply, pageCells, pageRules};
+ghost use Rattle.heathdapple.specs.Codes.{refusalCode, compileCode, answerCode, lookupCode, pageCode, characterCode, typedCode, attributeCode};
+
+// A refusal as one number.
+fn refusal_code(refusal: Refusal, place: usize) -> u64
+    ensures { λ r. ⌜ r ≡ refusalCode (numberOf refusal) place ⌝ }
+{
+    let number = basics::number_of(refusal) as u64;
+    if place <= 0xFFFFFFFF {
+        return number * 0x100000000 + place as u64;
+    }
+    number * 0x100000000 + 0xFFFFFFFF
+}
+
+// Compiles a text table into 2,048 words of `words`: the count of definitions, or the refusal with its line.
+#[no_mangle]
+pub extern "C" fn heathdapple_compile(text: &[u8], words: &mut [u32]) -> u64
+    ensures code { λ r. ⌜ r ≡ compileCode (compileReply (now (text .entry)) (length (now (words .entry)))) ⌝ }
+    ensures words { λ r. ⌜ now (words .exit) ≡ compileWords (now (text .entry)) (now (words .entry)) ⌝ }
+{
+    match compiler::compile(text, words) {
+        Compiled::Accepted(count) => count as u64,
+        Compiled::Refused(refusal, line) => refusal_code(refusal, line),
+    }
+}
+
+// What lookup shows, as one number.
+fn answer_code(a: Answer) -> u64
+    requires { ⌜ a .links ≤ 1024 ⌝ }
+    ensures { λ r. ⌜ r ≡ answerCode a ⌝ }
+{
+    a.cell as u64 + 0x100 * (a.rule as u64) + 0x10000 * (a.links as u64)
+}
+
+// Looks a character up: cell + 2^8 × rule + 2^16 × links, or the refusal with its place.
+#[no_mangle]
+pub extern "C" fn heathdapple_look_up(words: &[u32], character: u32) -> u64
+    ensures { λ r. ⌜ r ≡ lookupCode (lookupReply (now (words .entry)) character) ⌝ }
+{
+    match lookup::look_up(words, character) {
+        Looked::Shown(a) => answer_code(a),
+        Looked::Refused(refusal, place) => refusal_code(refusal, place),
+    }
+}
+
+// Fills the cells and rules of a page: 0, or the refusal with its place.
+#[no_mangle]
+pub extern "C" fn heathdapple_page(
+    words: &[u32],
+    characters: &[u32],
+    cells: &mut [u8],
+    rules: &mut [u8],
+) -> u64
+    ensures code { λ r. ⌜ r ≡ pageCode (pageReply (pagePlan (now (words .entry)) (now (characters .entry)) (length (now (cells .entry))) (length (now (rules .entry))))) ⌝ }
+    ensures cells { λ r. ⌜ now (cells .exit) ≡ pageCells (pagePlan (now (words .entry)) (now (characters .entry)) (length (now (cells .entry))) (length (now (rules .entry)))) (now (characters .entry)) (now (cells .entry)) ⌝ }
+    ensures rules { λ r. ⌜ now (rules .exit) ≡ pageRules (pagePlan (now (words .entry)) (now (characters .entry)) (length (now (cells .entry))) (length (now (rules .entry)))) (now (characters .entry)) (now (rules .entry)) ⌝ }
+{
+    match lookup::page(words, characters, cells, rules) {
+        Paged::Filled => 0,
+        Paged::Refused(refusal, place) => refusal_code(refusal, place),
+    }
+}
+
+// What an entry types, as one number.
+fn character_code(typed: Maybe) -> u64
+    ensures { λ r. ⌜ r ≡ characterCode typed ⌝ }
+{
+    match typed {
+        Maybe::Nothing => 0,
+        Maybe::Character(c) => c as u64 + 1,
+    }
+}
+
+// The character that a cell types: 0 for nothing, else the character + 1, or the refusal with its place.
+#[no_mangle]
+pub extern "C" fn heathdapple_typed(words: &[u32], cell: u8) -> u64
+    ensures { λ r. ⌜ r ≡ typedCode (now (words .entry)) cell ⌝ }
+{
+    let typing = typing::typed_entries(words);
+    let answer = typing.answer;
+    let entries = typing.entries;
+    match answer {
+        Typed::Filled => {
+            let at = cell as usize;
+            let e = entries[at];
+            let typed = e.types;
+            character_code(typed)
+        }
+        Typed::Refused(refusal, place) => refusal_code(refusal, place),
+    }
+}
+
+// The cell of an attribute byte by an attributes text, or the refusal of that text with its line.
+#[no_mangle]
+pub extern "C" fn heathdapple_attribute_cell(text: &[u8], byte: u8) -> u64
+    ensures { λ r. ⌜ r ≡ attributeCode (now (text .entry)) byte ⌝ }
+{
+    let table = attributes::compile_attributes(text);
+    let answer = table.answer;
+    let places = table.places;
+    match answer {
+        AttributesAnswer::Accepted(_) => attributes::attribute_cell(places, byte) as u64,
+        AttributesAnswer::Refused(refusal, line) => refusal_code(refusal, line),
+    }
+}
