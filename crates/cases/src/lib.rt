@@ -34,6 +34,7 @@ enum Kind {
     Left,
     Attributes,
     Dots,
+    Report,
 }
 
 // A piece of a text field: a byte, or a numbered line, so many times; and where the next piece begins.
@@ -517,6 +518,9 @@ fn later_kind(name: &[u8]) -> Kind {
     if lines::same_bytes(name, b"dots") {
         return Kind::Dots;
     }
+    if lines::same_bytes(name, b"report") {
+        return Kind::Report;
+    }
     Kind::Unknown
 }
 
@@ -781,6 +785,34 @@ fn dots_case(field: &[u8], question: &[u8]) -> Text
     with_cell(empty(), attributes::attribute_cell(places, byte))
 }
 
+// The refusal of a number; the last one for any other number.
+fn refusal_of(number: u32) -> Refusal {
+    match number {
+        1 => Refusal::TextTooLong,
+        2 => Refusal::ShortSlice,
+        3 => Refusal::LineTooLong,
+        4 => Refusal::NotUtf8,
+        5 => Refusal::UnknownDirective,
+        6 => Refusal::MissingOperand,
+        7 => Refusal::BadCharacter,
+        8 => Refusal::BadDots,
+        9 => Refusal::TrailingText,
+        10 => Refusal::TooManyConditions,
+        11 => Refusal::AlreadyDefined,
+        12 => Refusal::AliasLoop,
+        13 => Refusal::TableFull,
+        14 => Refusal::NotScalar,
+        15 => Refusal::NotTable,
+        _ => Refusal::BadState,
+    }
+}
+
+fn report_case(field: &[u8], question: &[u8]) -> Text
+    ensures { λ r. ⌜ r .length ≤ 256 ⌝ }
+{
+    reported(Compiled::Refused(refusal_of(number(field)), number(question) as usize))
+}
+
 fn answer_of(kind: Kind, field: &[u8], question: &[u8]) -> Text
     ensures { λ r. ⌜ r .length ≤ 256 ⌝ }
 {
@@ -796,6 +828,7 @@ fn answer_of(kind: Kind, field: &[u8], question: &[u8]) -> Text
         Kind::Left => left_case(field, question),
         Kind::Attributes => attributes_case(field),
         Kind::Dots => dots_case(field, question),
+        Kind::Report => report_case(field, question),
     }
 }
 
