@@ -45,6 +45,7 @@ struct Piece {
     after: usize,
 }
 
+// The smaller of two numbers.
 fn least(a: usize, most: usize) -> usize
     ensures { λ r. ⌜ (r ≤ a) × (r ≤ most) ⌝ }
 {
@@ -54,6 +55,7 @@ fn least(a: usize, most: usize) -> usize
     most
 }
 
+// A number, or the most that is asked for.
 fn at_most(n: u32, most: usize) -> usize
     ensures { λ r. ⌜ r ≤ most ⌝ }
 {
@@ -119,17 +121,35 @@ pub fn with_byte(text: Text, b: u8) -> Text
     Text { bytes, length: 256 }
 }
 
-// A text with more bytes.
-pub fn with_bytes(text: Text, more: &[u8]) -> Text
+// A byte, or where asked for a letter in upper case.
+fn cased(b: u8, upper: bool) -> u8 {
+    if !upper {
+        return b;
+    }
+    if b < b'a' {
+        return b;
+    }
+    b - 32
+}
+
+// A text with more bytes, where asked in upper case.
+fn with_cased(text: Text, more: &[u8], upper: bool) -> Text
     ensures { λ r. ⌜ r .length ≤ 256 ⌝ }
 {
     let mut all = bounded(text);
     let mut i = 0;
     while i < more.len() {
-        all = with_byte(all, more[i]);
+        all = with_byte(all, cased(more[i], upper));
         i += 1;
     }
     all
+}
+
+// A text with more bytes.
+pub fn with_bytes(text: Text, more: &[u8]) -> Text
+    ensures { λ r. ⌜ r .length ≤ 256 ⌝ }
+{
+    with_cased(text, more, false)
 }
 
 fn text_of(bytes: &[u8]) -> Text
@@ -146,34 +166,13 @@ fn with_decimal(text: Text, n: u64) -> Text
     with_bytes(text, &digits[..k])
 }
 
-// A letter in upper case.
-fn upper(b: u8) -> u8 {
-    if b < b'a' {
-        return b;
-    }
-    b - 32
-}
-
-// A text with more bytes, letters in upper case.
-fn with_upper(text: Text, more: &[u8]) -> Text
-    ensures { λ r. ⌜ r .length ≤ 256 ⌝ }
-{
-    let mut all = bounded(text);
-    let mut i = 0;
-    while i < more.len() {
-        all = with_byte(all, upper(more[i]));
-        i += 1;
-    }
-    all
-}
-
 // A text with a number more, in hex, with zeros in front up to `width` digits.
 pub fn with_hex(text: Text, n: u32, width: usize) -> Text
     ensures { λ r. ⌜ r .length ≤ 256 ⌝ }
 {
     let mut digits = [0u8; 16];
     let k = io::hex(n as u64, width, &mut digits);
-    with_upper(text, &digits[..k])
+    with_cased(text, &digits[..k], true)
 }
 
 // A text with a cell more, or any byte, as two digits.
