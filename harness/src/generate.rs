@@ -1,0 +1,849 @@
+//! Texts, tables and characters at random: made by the grammar of document 01, then damaged in part.
+
+use crate::random::Random;
+use crate::reference::{self, Condition, Place, LINE_BYTES, PAIRS, TEXT_BYTES, WORDS};
+
+/// Characters that the rules know: bases, characters with a base, stand-ins and characters with one.
+const KNOWN: [u32; 40] = [
+    0x41, 0x43, 0x45, 0x49, 0x4E, 0x4F, 0x55, 0x59, 0x61, 0x63, 0x65, 0x69, 0x6E, 0x6F, 0x75, 0x79, 0x20, 0x78, 0x73,
+    0x2D, 0x27, 0x22, 0xA0, 0xC6, 0xD7, 0xD8, 0xDF, 0xE6, 0xF8, 0xC0, 0xC5, 0xE0, 0xE4, 0xFF, 0x2010, 0x2014, 0x2018,
+    0x2019, 0x201C, 0x201D,
+];
+
+/// Characters at the borders of encodings, rows and operand forms.
+const BORDERS: [u32; 40] = [
+    0x00, 0x01, 0x07, 0x08, 0x09, 0x0A, 0x0B, 0x0C, 0x0D, 0x1F, 0x23, 0x28, 0x29, 0x30, 0x31, 0x5C, 0x7E, 0x7F, 0x80,
+    0xBF, 0xFE, 0x100, 0x1FF, 0x200, 0x7FF, 0x800, 0x2015, 0x2017, 0x27FF, 0x2800, 0x28FF, 0x2900, 0xD7FF, 0xE000,
+    0xEFFF, 0xF000, 0xF0FF, 0xF100, 0x10000, 0x10FFFF,
+];
+
+const NON_SCALARS: [u32; 8] = [0xD800, 0xDBFF, 0xDC00, 0xDFFF, 0x11_0000, 0xFF_FFFF, 0x100_0061, u32::MAX];
+
+pub fn any_scalar(random: &mut Random) -> u32 {
+    loop {
+        let number = match random.below(4) {
+            0 => random.below(0x100) as u32,
+            1 => random.below(0x3000) as u32,
+            2 => random.below(0x1_0000) as u32,
+            _ => random.below(0x11_0000) as u32,
+        };
+        if reference::scalar(number) {
+            return number;
+        }
+    }
+}
+
+pub fn non_scalar(random: &mut Random) -> u32 {
+    match random.below(3) {
+        0 => *random.pick(&NON_SCALARS),
+        1 => random.between(0xD800, 0xDFFF) as u32,
+        _ => random.word() | 0x0020_0000,
+    }
+}
+
+fn pool_character(random: &mut Random) -> u32 {
+    match random.below(100) {
+        0..=24 => random.between(0x61, 0x6A) as u32,
+        25..=64 => *random.pick(&KNOWN),
+        65..=69 => *random.pick(&BORDERS),
+        70..=75 => random.between(0xC0, 0xFF) as u32,
+        76..=81 => 0xFFFD,
+        82..=88 => '?' as u32,
+        89..=91 => 0xF000 + random.pick(&KNOWN) % 256,
+        92..=94 => 0x2800 + u32::from(random.byte()),
+        _ => any_scalar(random),
+    }
+}
+
+/// A text and the characters it draws from.
+pub struct Text {
+    pub bytes: Vec<u8>,
+    pub alphabet: Vec<u32>,
+}
+
+/// Makes the lines of one text.
+struct Maker<'r> {
+    random: &'r mut Random,
+    alphabet: Vec<u32>,
+    cells: Vec<u8>,
+    aliases: usize,
+    /// The table of the lines so far.
+    words: Vec<u32>,
+    definitions: usize,
+}
+
+const UNKNOWN: [&str; 18] = [
+    "Char", "CHAR", "chars", "cha", "ifglyph", "ifNotglyph", "IfCell", "ifCells", "if", "include", "dot",
+    "\u{FEFF}char", "char\u{A0}a", "\r", "a", "1", "\\#", "char#",
+];
+
+const BAD_CHARACTERS: [&str; 34] = [
+    "ab", "\\", "\\q", "\\B", "\\N", "\\S", "\\R", "\\uD800", "\\udfff", "\\U0000D800", "\\U00110000", "\\UFFFFFFFF",
+    "\\u041", "\\u00041", "\\x4", "\\x041", "\\x+4", "\\X-1", "\\xg0", "\\o10", "\\o1010", "\\o800", "\\o18", "\\O101",
+    "\\<A>", "\\{a}", "\\ss", "\\##", "\\\\\\", "é\\", "##", "#a", "a\r", "\\u00e",
+];
+
+const BAD_BYTES: [&str; 6] = ["\\u0041", "\\U00000041", "\\o400", "\\o777", "Ā", "€"];
+
+const BAD_DOTS: [&str; 35] = [
+    "9", "11", "00", "01", "10", "121", "123456781", "(11)", "(1 1)", "(0)", "(1 0)", "(9)", "(1 2", "(", "( ", ")",
+    "(12)x", "(12)#c", "12#c", "()()", "(1)2", "1(2)", "((1))", "(1))", "a", "+1", "1,2", "(1 # 2)", "(1\r)", "(1\r",
+    "é", "#", "#1", "\\x31", "1\r",
+];
+
+const BAD_CELLS: [&str; 12] = ["9", "11", "00", "01", "10", "(1)", "()", "(", "a", "#", "#1", "1#"];
+
+const AFTER: [&str; 8] = ["x", "1", "\\#", "x #", "\u{A0}", "\r #", "(1)", "char"];
+
+fn add_character(bytes: &mut Vec<u8>, character: u32) {
+    let character = char::from_u32(character).expect("a scalar");
+    bytes.extend(character.encode_utf8(&mut [0; 4]).as_bytes());
+}
+
+impl Maker<'_> {
+    fn new(random: &mut Random) -> Maker<'_> {
+        let size = match random.below(20) {
+            0 => random.between(20, 60),
+            1..=5 => random.between(1, 3),
+            _ => random.between(3, 12),
+        };
+        let alphabet = (0..size).map(|_| pool_character(random)).collect();
+        let cells = (0..random.between(1, 5)).map(|_| random.byte()).collect();
+        let aliases = *random.pick(&[10, 35, 35, 35, 80]);
+        Maker { random, alphabet, cells, aliases, words: vec![0; WORDS], definitions: 0 }
+    }
+
+    fn blanks(&mut self, bytes: &mut Vec<u8>) {
+        let blanks: &[u8] = match self.random.below(20) {
+            0 => b"\t",
+            1 => b"  ",
+            2 => b" \t ",
+            _ => b" ",
+        };
+        bytes.extend(blanks);
+    }
+
+    fn hex(&mut self, number: u32, digits: usize) -> String {
+        let hex = format!("{number:0digits$X}");
+        hex.chars().map(|digit| if self.random.percent(50) { digit.to_ascii_lowercase() } else { digit }).collect()
+    }
+
+    /// A character in any form that can write it.
+    fn write_character(&mut self, bytes: &mut Vec<u8>, character: u32, unicode: bool) {
+        let raw = !matches!(character, 0x09 | 0x0A | 0x20 | 0x5C);
+        if raw && self.random.percent(60) {
+            add_character(bytes, character);
+            return;
+        }
+        loop {
+            let form = match self.random.below(6) {
+                0 if character <= 0o777 => format!("\\o{character:03o}"),
+                1 if character <= 0xFF => {
+                    let letter = if self.random.percent(50) { 'x' } else { 'X' };
+                    format!("\\{letter}{}", self.hex(character, 2))
+                }
+                2 if character <= 0xFFFF && unicode => format!("\\u{}", self.hex(character, 4)),
+                3 if unicode => format!("\\U{}", self.hex(character, 8)),
+                4 | 5 => match character {
+                    8 => "\\b".into(),
+                    9 => "\\t".into(),
+                    10 => "\\n".into(),
+                    11 => "\\v".into(),
+                    12 => "\\f".into(),
+                    13 => "\\r".into(),
+                    32 => "\\s".into(),
+                    35 => "\\#".into(),
+                    92 => "\\\\".into(),
+                    _ => continue,
+                },
+                _ => continue,
+            };
+            bytes.extend(form.as_bytes());
+            return;
+        }
+    }
+
+    fn draw(&mut self) -> u32 {
+        match self.random.below(25) {
+            0 => any_scalar(self.random),
+            1 => 0xF000 + self.random.pick(&self.alphabet) % 256,
+            _ => *self.random.pick(&self.alphabet),
+        }
+    }
+
+    fn character(&mut self, bytes: &mut Vec<u8>) {
+        let character = self.draw();
+        self.write_character(bytes, character, true);
+    }
+
+    fn byte(&mut self, bytes: &mut Vec<u8>) {
+        let drawn = *self.random.pick(&self.alphabet);
+        let character = if drawn <= 255 { drawn } else { u32::from(self.random.byte()) };
+        self.write_character(bytes, character, false);
+    }
+
+    fn cell(&mut self) -> u8 {
+        if self.random.percent(85) {
+            *self.random.pick(&self.cells)
+        } else {
+            self.random.byte()
+        }
+    }
+
+    /// A cell's digits in any order.
+    fn digits(&mut self, cell: u8) -> Vec<u8> {
+        let mut digits: Vec<u8> = (0..8).filter(|d| cell >> d & 1 == 1).map(|d| b'1' + d).collect();
+        for place in (1..digits.len()).rev() {
+            digits.swap(place, self.random.below(place + 1));
+        }
+        digits
+    }
+
+    fn write_cell(&mut self, bytes: &mut Vec<u8>, cell: u8) {
+        match cell {
+            0 => bytes.push(b'0'),
+            cell => bytes.extend(self.digits(cell)),
+        }
+    }
+
+    fn write_dots(&mut self, bytes: &mut Vec<u8>) {
+        let cell = self.cell();
+        if self.random.percent(60) {
+            return self.write_cell(bytes, cell);
+        }
+        let spaced = self.random.percent(50);
+        bytes.push(b'(');
+        for digit in self.digits(cell) {
+            if spaced && self.random.percent(60) {
+                self.blanks(bytes);
+            }
+            bytes.push(digit);
+        }
+        if spaced && self.random.percent(50) {
+            self.blanks(bytes);
+        }
+        bytes.push(b')');
+    }
+
+    /// A condition, which holds more often than not.
+    fn condition(&mut self, bytes: &mut Vec<u8>) {
+        let wish = self.random.percent(70);
+        let mut plain = self.random.percent(50);
+        let mut operand = Vec::new();
+        let words = if self.random.percent(50) {
+            let character = self.draw();
+            if wish {
+                plain = reference::holds(&self.words[..2 * self.definitions], Condition::Glyph(character, true));
+            }
+            self.write_character(&mut operand, character, true);
+            ["ifNotGlyph", "ifGlyph"]
+        } else {
+            let cell = self.cell();
+            if wish {
+                plain = reference::holds(&self.words[..2 * self.definitions], Condition::Cell(cell, true));
+            }
+            self.write_cell(&mut operand, cell);
+            ["ifNotCell", "ifCell"]
+        };
+        bytes.extend(words[usize::from(plain)].as_bytes());
+        self.blanks(bytes);
+        bytes.extend(operand);
+        self.blanks(bytes);
+    }
+
+    fn definition(&mut self, bytes: &mut Vec<u8>) {
+        if self.random.percent(self.aliases) {
+            bytes.extend(b"alias");
+            self.blanks(bytes);
+            self.character(bytes);
+            self.blanks(bytes);
+            self.character(bytes);
+            return;
+        }
+        match self.random.below(6) {
+            0 => {
+                bytes.extend(b"byte");
+                self.blanks(bytes);
+                self.byte(bytes);
+            }
+            1 => {
+                bytes.extend(b"glyph");
+                self.blanks(bytes);
+                self.character(bytes);
+            }
+            _ => {
+                bytes.extend(b"char");
+                self.blanks(bytes);
+                self.character(bytes);
+            }
+        }
+        self.blanks(bytes);
+        self.write_dots(bytes);
+    }
+
+    fn comment(&mut self, bytes: &mut Vec<u8>) {
+        bytes.push(b'#');
+        for _ in 0..self.random.below(8) {
+            match self.random.below(3) {
+                0 => bytes.push(b' '),
+                1 => bytes.push(b'#'),
+                _ => {
+                    let character = any_scalar(self.random);
+                    add_character(bytes, if character == 10 { 11 } else { character });
+                }
+            }
+        }
+    }
+
+    fn trail(&mut self, bytes: &mut Vec<u8>) {
+        match self.random.below(20) {
+            0 | 1 => self.blanks(bytes),
+            2 | 3 => {
+                self.blanks(bytes);
+                self.comment(bytes);
+            }
+            _ => {}
+        }
+    }
+
+    fn conditions(&mut self, bytes: &mut Vec<u8>, most: usize) {
+        let count = match self.random.below(100) {
+            0..=59 => 0,
+            60..=81 => 1,
+            82..=91 => 2,
+            _ => self.random.between(3, most),
+        };
+        for _ in 0..count {
+            self.condition(bytes);
+        }
+    }
+
+    /// A well-formed line without its end.
+    fn line(&mut self) -> Vec<u8> {
+        let mut bytes = Vec::new();
+        if self.random.percent(10) {
+            self.blanks(&mut bytes);
+        }
+        match self.random.below(30) {
+            0 => {}
+            1 => self.blanks(&mut bytes),
+            2 | 3 => self.comment(&mut bytes),
+            _ => {
+                self.conditions(&mut bytes, 8);
+                self.definition(&mut bytes);
+                self.trail(&mut bytes);
+            }
+        }
+        if self.random.below(400) == 0 {
+            self.pad(&mut bytes, 0);
+        }
+        bytes
+    }
+
+    /// Brings a line to `more` bytes over 1,024 or a few under.
+    fn pad(&mut self, bytes: &mut Vec<u8>, more: usize) {
+        let length = LINE_BYTES + more - if more == 0 { self.random.below(3) } else { 0 };
+        if self.random.percent(50) && bytes.len() < length {
+            bytes.push(b' ');
+        } else if bytes.len() + 2 < length {
+            bytes.extend(b" #");
+        }
+        let filler = if self.random.percent(50) { b' ' } else { b'\t' };
+        while bytes.len() < length {
+            bytes.push(filler);
+        }
+    }
+
+    /// A line with one fault of the grammar, behind conditions that may hold or fail.
+    fn faulty_line(&mut self) -> Vec<u8> {
+        let mut bytes = Vec::new();
+        self.conditions(&mut bytes, 8);
+        let word = *self.random.pick(&["char", "glyph", "byte"]);
+        match self.random.below(12) {
+            0 => {
+                bytes.extend(self.random.pick(&UNKNOWN).as_bytes());
+                self.blanks(&mut bytes);
+                self.character(&mut bytes);
+                self.blanks(&mut bytes);
+                self.write_dots(&mut bytes);
+            }
+            1 => {
+                let mut end = Vec::new();
+                self.definition(&mut end);
+                let words: Vec<&[u8]> =
+                    end.split(|byte| *byte == b' ' || *byte == b'\t').filter(|word| !word.is_empty()).collect();
+                let kept = self.random.below(words.len());
+                for word in &words[..kept] {
+                    bytes.extend(*word);
+                    bytes.push(b' ');
+                }
+                if self.random.percent(40) {
+                    bytes.push(b'#');
+                }
+            }
+            2 | 3 => {
+                bytes.extend(word.as_bytes());
+                self.blanks(&mut bytes);
+                bytes.extend(self.random.pick(&BAD_CHARACTERS).as_bytes());
+                self.blanks(&mut bytes);
+                self.write_dots(&mut bytes);
+            }
+            4 => {
+                bytes.extend(b"byte ");
+                bytes.extend(self.random.pick(&BAD_BYTES).as_bytes());
+                self.blanks(&mut bytes);
+                self.write_dots(&mut bytes);
+            }
+            5 => {
+                bytes.extend(b"alias ");
+                self.character(&mut bytes);
+                self.blanks(&mut bytes);
+                bytes.extend(self.random.pick(&BAD_CHARACTERS).as_bytes());
+                self.trail(&mut bytes);
+            }
+            6 | 7 => {
+                bytes.extend(word.as_bytes());
+                self.blanks(&mut bytes);
+                if word == "byte" {
+                    self.byte(&mut bytes);
+                } else {
+                    self.character(&mut bytes);
+                }
+                self.blanks(&mut bytes);
+                bytes.extend(self.random.pick(&BAD_DOTS).as_bytes());
+                self.trail(&mut bytes);
+            }
+            8 => {
+                if self.random.percent(50) {
+                    bytes.extend(b"ifGlyph ");
+                    bytes.extend(self.random.pick(&BAD_CHARACTERS).as_bytes());
+                } else {
+                    bytes.extend(b"ifNotCell ");
+                    bytes.extend(self.random.pick(&BAD_CELLS).as_bytes());
+                }
+                self.blanks(&mut bytes);
+                self.definition(&mut bytes);
+            }
+            9 => {
+                self.definition(&mut bytes);
+                self.blanks(&mut bytes);
+                bytes.extend(self.random.pick(&AFTER).as_bytes());
+            }
+            10 => {
+                bytes.clear();
+                for _ in 0..self.random.between(8, 10) {
+                    self.condition(&mut bytes);
+                }
+                match self.random.below(4) {
+                    0 => {}
+                    1 => {
+                        let ends = ["ifCell", "ifGlyph ", "ifNotCell 9", "ifNotGlyph ab x", "ifCell #", "ifCells"];
+                        bytes.extend(self.random.pick(&ends).as_bytes());
+                    }
+                    _ => self.definition(&mut bytes),
+                }
+            }
+            _ => {
+                self.definition(&mut bytes);
+                let more = self.random.between(1, 3);
+                self.pad(&mut bytes, more);
+            }
+        }
+        bytes
+    }
+}
+
+fn end_line(random: &mut Random, bytes: &mut Vec<u8>) {
+    bytes.extend(if random.percent(12) { b"\r\n".as_slice() } else { b"\n" });
+}
+
+/// Now and then a text without its last LF, or with CR alone.
+fn end_text(random: &mut Random, bytes: &mut Vec<u8>) {
+    if random.percent(20) && bytes.last() == Some(&b'\n') {
+        bytes.pop();
+    } else if random.percent(3) {
+        bytes.push(b'\r');
+    }
+}
+
+const NOT_UTF8: [&[u8]; 20] = [
+    b"\x80", b"\xBF", b"\xFF", b"\xFE", b"\xC0\x80", b"\xC1\xBF", b"\xC3", b"\xC3\x28", b"\xE0\x80\x80",
+    b"\xE0\x9F\xBF", b"\xE2\x82", b"\xE2\x28\xA1", b"\xED\xA0\x80", b"\xED\xBF\xBF", b"\xF0\x80\x80\x80",
+    b"\xF0\x8F\xBF\xBF", b"\xF0\x90\x80", b"\xF4\x90\x80\x80", b"\xF5\x80\x80\x80", b"\xF8\x88\x80\x80\x80",
+];
+
+/// Bytes that mean something to the reader.
+const LOADED: &[u8] = b" \t\r\n#\\()0123456789abcdnuxUXobtvfrs=~AFG\x00\x7F\x80\xA0\xC0\xC3\xE2\xED\xF0\xF4\xFF";
+
+/// Damages a text by bytes.
+pub fn damage(random: &mut Random, bytes: &mut Vec<u8>) {
+    for _ in 0..*random.pick(&[1, 1, 1, 2, 3, 6]) {
+        let place = random.below(bytes.len() + 1);
+        let inside = place.min(bytes.len().saturating_sub(1));
+        match random.below(9) {
+            0 if !bytes.is_empty() => bytes[inside] ^= 1 << random.below(8),
+            1 if !bytes.is_empty() => bytes[inside] = *random.pick(LOADED),
+            2 => bytes.insert(place, *random.pick(LOADED)),
+            3 => bytes.insert(place, random.byte()),
+            4 if !bytes.is_empty() => {
+                bytes.remove(inside);
+            }
+            5 => bytes.truncate(place),
+            6 => {
+                // Two lines joined.
+                let ends: Vec<usize> = (0..bytes.len()).filter(|k| bytes[*k] == b'\n').collect();
+                if !ends.is_empty() {
+                    bytes.remove(*random.pick(&ends));
+                }
+            }
+            7 => {
+                bytes.splice(place..place, random.pick(&NOT_UTF8).iter().copied());
+            }
+            _ => {
+                // A part moved or said twice.
+                let from = random.below(bytes.len() + 1);
+                let to = (from + random.below(12)).min(bytes.len());
+                let part = bytes[from..to].to_vec();
+                bytes.splice(place..place, part);
+            }
+        }
+    }
+}
+
+/// A text table's text.
+pub fn text(random: &mut Random) -> Text {
+    let mode = random.below(100);
+    let mut maker = Maker::new(random);
+    let count = match maker.random.below(10) {
+        0 => maker.random.below(3),
+        1 => maker.random.between(15, 40),
+        _ => maker.random.between(3, 14),
+    };
+    // All but a few texts leave out the lines that would be refused as repeats or loops.
+    let only_accepted = !(56..=67).contains(&mode);
+    let mut bytes = Vec::new();
+    for _ in 0..count {
+        let line = maker.line();
+        match reference::take_line(&line, &mut maker.words, maker.definitions) {
+            Ok(grown) => maker.definitions = grown,
+            Err(_) if only_accepted => continue,
+            Err(_) => {}
+        }
+        bytes.extend(line);
+        end_line(maker.random, &mut bytes);
+    }
+    if (68..=85).contains(&mode) {
+        bytes.extend(maker.faulty_line());
+        end_line(maker.random, &mut bytes);
+        for _ in 0..maker.random.below(3) {
+            bytes.extend(maker.line());
+            end_line(maker.random, &mut bytes);
+        }
+    }
+    let alphabet = std::mem::take(&mut maker.alphabet);
+    if mode > 85 {
+        damage(random, &mut bytes);
+    }
+    end_text(random, &mut bytes);
+    Text { bytes, alphabet }
+}
+
+/// Fills a text with comments and blank lines up to `length`, within its lines' limit.
+fn fill_up(random: &mut Random, bytes: &mut Vec<u8>, length: usize) {
+    if bytes.last().is_some_and(|last| *last != b'\n') {
+        bytes.push(b'\n');
+    }
+    while bytes.len() < length {
+        let line = random.between(1, 1025).min(length - bytes.len());
+        let filler = if random.percent(50) { b'#' } else { b' ' };
+        bytes.extend(std::iter::repeat_n(filler, line - 1));
+        bytes.push(b'\n');
+    }
+    bytes.truncate(length);
+}
+
+/// A text of about 65,536 bytes: below, at and over the limit.
+pub fn long_text(random: &mut Random) -> Text {
+    let mut made = text(random);
+    let length = match random.below(8) {
+        0 => TEXT_BYTES,
+        1 => TEXT_BYTES - 1,
+        2 => random.between(60_000, TEXT_BYTES),
+        3..=5 => TEXT_BYTES + 1,
+        _ => random.between(TEXT_BYTES + 1, TEXT_BYTES + 5000),
+    };
+    fill_up(random, &mut made.bytes, length);
+    if random.percent(20) {
+        let blank_lines = made.bytes.len() - 1;
+        made.bytes[..blank_lines].fill(b'\n');
+    }
+    made
+}
+
+/// A text of about 1,024 definitions: below, at and over the limit, with conditions among its last lines.
+pub fn large_text(random: &mut Random) -> Text {
+    let first = random.between(0x100, 0x1000) as u32;
+    let step = random.between(1, 3) as u32;
+    let count = match random.below(8) {
+        0 => PAIRS - 1,
+        1 | 2 => PAIRS,
+        _ => random.between(PAIRS + 1, PAIRS + 20),
+    };
+    let mut bytes = Vec::new();
+    let mut alphabet = Vec::new();
+    for k in 0..count as u32 {
+        let character = first + step * k;
+        alphabet.push(character);
+        if random.below(300) == 0 {
+            bytes.extend(b"ifCell 8 glyph b 1\n");
+        }
+        let line = match random.below(10) {
+            0..=2 => {
+                let target = if random.percent(50) { character + 1 } else { 0x61 };
+                format!("alias \\u{character:04X} \\u{target:04X}\n")
+            }
+            3..=6 => format!("char \\u{character:04X} {}\n", random.between(1, 7)),
+            _ => format!("glyph \\u{character:04x} ({})\n", random.between(1, 8)),
+        };
+        bytes.extend(line.as_bytes());
+    }
+    let last: &[u8] = match random.below(6) {
+        0 => b"ifCell 8 char \\uF8FF 1",
+        1 => b"ifNotCell 8 char \\uF8FF 1",
+        2 => b"alias a a",
+        3 => b"ifGlyph a alias a a\n",
+        _ => b"",
+    };
+    bytes.extend(last);
+    Text { bytes, alphabet }
+}
+
+fn chain(links: usize) -> (Vec<u32>, Vec<String>) {
+    let alphabet: Vec<u32> = (0..=links as u32).map(|k| 0x400 + k).collect();
+    let lines = alphabet.windows(2).map(|pair| format!("alias \\u{:04X} \\u{:04X}\n", pair[0], pair[1])).collect();
+    (alphabet, lines)
+}
+
+/// A text with a chain of aliases, said in any order, and conditions on its head.
+pub fn chain_text(random: &mut Random, links: usize) -> Text {
+    let (alphabet, mut lines) = chain(links);
+    match random.below(3) {
+        0 => {}
+        1 => lines.reverse(),
+        _ => {
+            for place in (1..lines.len()).rev() {
+                lines.swap(place, random.below(place + 1));
+            }
+        }
+    }
+    let mut text = lines.concat();
+    let end = alphabet[links];
+    text += "ifGlyph \\u0400 char a 1\n";
+    match random.below(4) {
+        0 => text += &format!("alias \\u{end:04X} \\u0400\n"),
+        1 => {}
+        _ => text += &format!("glyph \\u{end:04X} 2\n"),
+    }
+    text += "ifGlyph \\u0400 char b 1\n";
+    Text { bytes: text.into_bytes(), alphabet }
+}
+
+/// A chain of aliases from U+0400 to an explicit character, each alias said before those that lead to it: every
+/// alias walks all of the chain so far.
+pub fn backward_chain_text(links: usize) -> String {
+    let (alphabet, mut lines) = chain(links);
+    lines.push(format!("char \\u{:04X} 2\n", alphabet[links]));
+    lines.reverse();
+    lines.concat()
+}
+
+/// A character whose base or stand-in is of the alphabet, if a few draws find one.
+fn near(random: &mut Random, alphabet: &[u32]) -> u32 {
+    for _ in 0..20 {
+        let drawn = match random.below(4) {
+            0 => *random.pick(&[0xA0, 0xC6, 0xD7, 0xD8, 0xDF, 0xE6, 0xF8]),
+            1 => random.between(0x2010, 0x201D) as u32,
+            _ => random.between(0xC0, 0xFF) as u32,
+        };
+        let other = reference::base(drawn).or(reference::stand_in(drawn));
+        if other.is_some_and(|other| alphabet.contains(&other)) {
+            return drawn;
+        }
+    }
+    random.between(0xA0, 0xFF) as u32
+}
+
+/// A character to look up: from the text, near it by the rules, or any other; now and then no scalar.
+pub fn query(random: &mut Random, alphabet: &[u32]) -> u32 {
+    match random.below(40) {
+        0..=12 if !alphabet.is_empty() => *random.pick(alphabet),
+        13..=16 if !alphabet.is_empty() => 0xF000 + random.pick(alphabet) % 256,
+        17..=21 => near(random, alphabet),
+        22..=25 => 0xF000 + near(random, alphabet) % 256,
+        26 | 27 => random.between(0xA0, 0xFF) as u32,
+        28 => 0xF0A0 + random.below(0x60) as u32,
+        29..=31 => *random.pick(&KNOWN),
+        32 => 0x2800 + u32::from(random.byte()),
+        33 => 0xF000 + u32::from(random.byte()),
+        34 => *random.pick(&BORDERS),
+        35 => random.between(0x2008, 0x2020) as u32,
+        36 => non_scalar(random),
+        _ => any_scalar(random),
+    }
+}
+
+fn sound_second_word(random: &mut Random, characters: &[u32]) -> u32 {
+    match random.below(4) {
+        0 => 1 << 24 | u32::from(random.byte()),
+        1 => 2 << 24 | u32::from(random.byte()),
+        _ => 3 << 24 | *random.pick(characters),
+    }
+}
+
+/// Changes a compiled table of `count` definitions by a word or a pair; it may stay one.
+pub fn damage_table(random: &mut Random, words: &mut [u32], count: usize) {
+    let pair = if count > 0 && random.percent(85) { random.below(count) } else { random.below(PAIRS.min(count + 3)) };
+    let other = random.below(PAIRS.min(count + 1));
+    let (first, second) = (2 * pair, 2 * pair + 1);
+    match random.below(14) {
+        0 => words[first + random.below(2)] ^= 1 << random.below(32),
+        1 => words[first + random.below(2)] = random.word(),
+        2 => words[random.below(WORDS)] = random.word(),
+        3 => words[first + random.below(2)] = 0,
+        4 => words[first..=second].fill(0),
+        5 => words[first] = words[2 * other],
+        6 => words[first] = non_scalar(random),
+        7 => words[second] = (random.below(6) as u32) << 24 | words[second] & 0xFF_FFFF,
+        8 => words[second] = (random.between(1, 2) as u32) << 24 | 0x100 << random.below(15),
+        9 => words[second] = 3 << 24 | non_scalar(random) & 0xFF_FFFF,
+        10 | 11 => words[second] = 3 << 24 | words[2 * other] & 0xFF_FFFF,
+        12 => {
+            words.swap(first, 2 * other);
+            words.swap(second, 2 * other + 1);
+        }
+        _ => words[WORDS - 1 - random.below(2)] = 1 << random.below(32),
+    }
+}
+
+/// A table of pairs at random, mostly sound ones of few characters; never a compiled one by design.
+pub fn any_table(random: &mut Random, words: &mut [u32]) -> Vec<u32> {
+    words.fill(0);
+    let characters: Vec<u32> = (0..random.between(1, 40)).map(|_| pool_character(random)).collect();
+    if random.percent(10) {
+        words.iter_mut().for_each(|word| *word = random.word());
+        return characters;
+    }
+    let count = match random.below(20) {
+        0 => random.between(40, 120),
+        1..=3 => 0,
+        _ => random.between(1, 12),
+    };
+    let mut next = 0x3000;
+    for pair in 0..count {
+        // Repeats are rare enough that many tables come through.
+        let repeats = random.percent(5);
+        let drawn = *random.pick(&characters);
+        let used = words[..2 * pair].chunks_exact(2).any(|earlier| earlier[0] == drawn);
+        words[2 * pair] = if used && !repeats {
+            next += 1;
+            next
+        } else {
+            drawn
+        };
+        words[2 * pair + 1] = sound_second_word(random, &characters);
+    }
+    if random.percent(20) {
+        damage_table(random, words, count);
+    }
+    characters
+}
+
+// Attributes.
+
+const BAD_STATES: [&str; 20] = [
+    "=", "~", "on", "blink", "=FG-RED", "=fg-redd", "=fg-re", "~fg_red", "==blink", "=~blink", "#", "#x", "=blink#",
+    "=fg-red\r", "~Blink", "=fg-", "-blink", "=bg-bright", "~\u{A0}blink", "=fg-blue,blink",
+];
+
+const BAD_DOT_NUMBERS: [&str; 12] = ["0", "9", "12", "(1)", "01", "1=blink", "#", "a", "+1", "\\x31", "1#", "é"];
+
+fn attributes_line(random: &mut Random) -> Vec<u8> {
+    let blanks = |random: &mut Random| *random.pick(&[" ", " ", " ", " ", "\t", "  "]);
+    let mut line = String::new();
+    if random.percent(10) {
+        line += blanks(random);
+    }
+    match random.below(20) {
+        0 => {}
+        1 => line += "#",
+        2 => line += "# dot 1 =blink",
+        _ => {
+            line += "dot";
+            line += blanks(random);
+            line.push(char::from(b'1' + random.below(8) as u8));
+            line += blanks(random);
+            line.push(if random.percent(50) { '=' } else { '~' });
+            line += random.pick(&reference::NAMES).0;
+            match random.below(10) {
+                0 => line += blanks(random),
+                1 => line += " # on",
+                2 => line += "\t#",
+                _ => {}
+            }
+        }
+    }
+    let mut bytes = line.into_bytes();
+    if random.below(400) == 0 {
+        let length = LINE_BYTES - random.below(2);
+        bytes.resize(length, b' ');
+    }
+    bytes
+}
+
+fn faulty_attributes_line(random: &mut Random) -> Vec<u8> {
+    let dot = random.between(1, 8);
+    let line = match random.below(8) {
+        0 => format!("{} {dot} =blink", random.pick(&UNKNOWN)),
+        1 => format!(
+            "{} {dot} =blink",
+            random.pick(&["Dot", "dots", "do", "ifCell 1 dot", "\u{FEFF}dot", "dot\u{A0}", "char"])
+        ),
+        2 => ["dot", "dot ", "dot 1", "dot 8\t", "dot #"][random.below(5)].into(),
+        3 => format!("dot {} =blink", random.pick(&BAD_DOT_NUMBERS)),
+        4 | 5 => format!("dot {dot} {}", random.pick(&BAD_STATES)),
+        6 => format!("dot {dot} ~bg-red {}", random.pick(&AFTER)),
+        _ => format!("dot {dot} ~bg-red{}", " ".repeat(LINE_BYTES - 13 + random.below(3))),
+    };
+    line.into_bytes()
+}
+
+/// An attributes table's text.
+pub fn attributes_text(random: &mut Random) -> Vec<u8> {
+    let mode = random.below(100);
+    let only_accepted = !(56..=66).contains(&mode);
+    let mut places = [Place::Unnamed; 8];
+    let mut bytes = Vec::new();
+    for _ in 0..random.below(12) {
+        let line = attributes_line(random);
+        if reference::take_attributes_line(&line, &mut places).is_err() && only_accepted {
+            continue;
+        }
+        bytes.extend(line);
+        end_line(random, &mut bytes);
+    }
+    if (67..=84).contains(&mode) {
+        bytes.extend(faulty_attributes_line(random));
+        end_line(random, &mut bytes);
+        bytes.extend(attributes_line(random));
+        end_line(random, &mut bytes);
+    }
+    if mode > 84 {
+        damage(random, &mut bytes);
+    }
+    end_text(random, &mut bytes);
+    if random.below(100) == 0 {
+        let length = random.between(TEXT_BYTES - 2, TEXT_BYTES + 2);
+        fill_up(random, &mut bytes, length);
+    }
+    bytes
+}

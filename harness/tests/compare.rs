@@ -1,0 +1,538 @@
+//! The library against the reference on random texts, tables and pages: answers and lent memory, byte by byte.
+//! HEATHDAPPLE_SEED names another seed. Built without the library, the hashed side takes its place.
+
+use harness::generate;
+use harness::random::Random;
+use harness::reference::{self, Refusal, PAIRS, WORDS};
+use harness::side::{Side, HASHED};
+use std::fmt::Debug;
+use std::process::exit;
+use std::time::Instant;
+
+const TEXTS: u64 = 110_000;
+const LONG_TEXTS: u64 = 500;
+const LARGE_TEXTS: u64 = 300;
+const CHAIN_TEXTS: u64 = 60;
+const LONG_CHAINS: u64 = 2;
+const TABLES: u64 = 20_000;
+const ATTRIBUTES_TEXTS: u64 = 25_000;
+const LEAST: u64 = 100;
+/// Differences after which the run stops.
+const ENOUGH: u64 = 10;
+const GUARD: usize = 16;
+const RULES: [usize; 15] = [1, 3, 4, 5, 6, 7, 8, 9, 19, 20, 21, 22, 23, 24, 25];
+
+const CALLS: [&str; 5] = ["compile", "look_up", "page", "typed", "attributes"];
+const COMPILE: usize = 0;
+const LOOK_UP: usize = 1;
+const PAGE: usize = 2;
+const TYPED: usize = 3;
+const ATTRIBUTES: usize = 4;
+
+struct Run {
+    sides: Vec<Side>,
+    random: Random,
+    case: String,
+    calls: [u64; 5],
+    refusals: [[u64; 17]; 5],
+    rules: [u64; 32],
+    links: u32,
+    texts: u64,
+    accepted: u64,
+    differences: u64,
+}
+
+fn shown(bytes: &[u8]) -> String {
+    let mut escaped = String::new();
+    for byte in bytes {
+        escaped.extend(std::ascii::escape_default(*byte).map(char::from));
+    }
+    if escaped.len() > 3000 {
+        escaped.truncate(3000);
+        escaped += " ... (cut)";
+    }
+    escaped
+}
+
+/// A smaller text that still differs, by leaving out ever smaller parts for a few seconds.
+fn shrink(text: &[u8], differs: impl Fn(&[u8]) -> bool) -> Vec<u8> {
+    let begun = Instant::now();
+    let mut text = text.to_vec();
+    let mut size = text.len() / 2;
+    while size > 0 {
+        let mut start = 0;
+        while start < text.len() {
+            if begun.elapsed().as_secs() >= 3 {
+                return text;
+            }
+            let end = (start + size).min(text.len());
+            let less = [&text[..start], &text[end..]].concat();
+            if differs(&less) {
+                text = less;
+            } else {
+                start += size;
+            }
+        }
+        size /= 2;
+    }
+    text
+}
+
+impl Run {
+    fn tally<T>(&mut self, call: usize, answer: &Result<T, Refusal>) {
+        self.calls[call] += 1;
+        if let Err(refusal) = answer {
+            self.refusals[call][refusal.number as usize] += 1;
+        }
+    }
+
+    fn differ(
+        &mut self,
+        side: &Side,
+        call: usize,
+        expected: impl Debug,
+        got: impl Debug,
+        input: impl FnOnce() -> String,
+    ) {
+        self.differences += 1;
+        if self.differences <= ENOUGH {
+            println!("DIFFERENCE in {} ({})", CALLS[call], self.case);
+            println!("  reference {expected:?}\n  {} {got:?}\n  {}", side.name, input());
+        }
+    }
+
+    fn random_words(&mut self, length: usize) -> Vec<u32> {
+        let mut words = Vec::with_capacity(length + 1);
+        while words.len() < length {
+            let drawn = self.random.bits();
+            words.push(drawn as u32);
+            words.push((drawn >> 32) as u32);
+        }
+        words.truncate(length);
+        words
+    }
+
+    fn random_bytes(&mut self, length: usize) -> Vec<u8> {
+        (0..length).map(|_| self.random.byte()).collect()
+    }
+
+    /// The bytes behind a random start, with random bytes around them.
+    fn place_bytes(&mut self, bytes: &[u8]) -> (Vec<u8>, usize) {
+        let start = self.random.below(8);
+        let mut all = self.random_bytes(start);
+        all.extend(bytes);
+        all.extend(self.random_bytes(8));
+        (all, start)
+    }
+
+    /// Compiles into `length` words that lie among others; answers the slice and the count.
+    fn compile(&mut self, text: &[u8], length: usize) -> (Vec<u32>, Option<usize>) {
+        let before = self.random_words(length + 2 * GUARD);
+        let (bytes, start) = self.place_bytes(text);
+        let text = &bytes[start..start + text.len()];
+        let inside = GUARD..GUARD + length;
+        let mut expected = before.clone();
+        let answer = reference::compile(text, &mut expected[inside.clone()]);
+        self.tally(COMPILE, &answer);
+        for side in self.sides.clone() {
+            let mut got = before.clone();
+            let other = (side.compile)(text, &mut got[inside.clone()]);
+            if other != answer || got != expected {
+                let differs = |text: &[u8]| {
+                    let (mut ours, mut theirs) = (before.clone(), before.clone());
+                    let answer = reference::compile(text, &mut ours[inside.clone()]);
+                    answer != (side.compile)(text, &mut theirs[inside.clone()]) || ours != theirs
+                };
+                let first = (0..got.len()).find(|k| got[*k] != expected[*k]).map(|k| k as isize - GUARD as isize);
+                self.differ(&side, COMPILE, answer, other, || {
+                    let small = shrink(text, differs);
+                    let (mut ours, mut theirs) = (before.clone(), before.clone());
+                    let answer = reference::compile(&small, &mut ours[inside.clone()]);
+                    let other = (side.compile)(&small, &mut theirs[inside.clone()]);
+                    format!(
+                        "{length} words, first word that differs {first:?}\n  text \"{}\"\n  smaller \"{}\": {answer:?} and {other:?}",
+                        shown(text),
+                        shown(&small)
+                    )
+                });
+            }
+        }
+        (expected[inside].to_vec(), answer.ok().map(|count| count as usize))
+    }
+
+    fn table_shown(words: &[u32]) -> String {
+        let used = words.len().min(WORDS) - words.iter().take(WORDS).rev().take_while(|word| **word == 0).count();
+        let shown = &words[..used.min(80)];
+        format!("table of {} words, {used} to the last that is not 0: {shown:X?}", words.len())
+    }
+
+    fn look_up(&mut self, words: &[u32], character: u32) {
+        let answer = reference::look_up(words, character);
+        self.tally(LOOK_UP, &answer);
+        if let Ok(shown) = answer {
+            self.rules[usize::from(shown.rule)] += 1;
+            self.links = self.links.max(shown.links);
+        }
+        for side in self.sides.clone() {
+            let other = (side.look_up)(words, character);
+            if other != answer {
+                self.differ(&side, LOOK_UP, answer, other, || {
+                    format!("character {character:X}, {}", Self::table_shown(words))
+                });
+            }
+        }
+    }
+
+    fn typed(&mut self, words: &[u32], cell: u8) {
+        let answer = reference::typed(words, cell);
+        self.tally(TYPED, &answer);
+        for side in self.sides.clone() {
+            let other = (side.typed)(words, cell);
+            if other != answer {
+                self.differ(&side, TYPED, answer, other, || format!("cell {cell:02X}, {}", Self::table_shown(words)));
+            }
+        }
+    }
+
+    fn typed_all(&mut self, words: &[u32]) {
+        let (answer, entries) = reference::typing(words);
+        for cell in 0..=255 {
+            let answer = answer.map(|()| entries[usize::from(cell)]);
+            self.tally(TYPED, &answer);
+            for side in self.sides.clone() {
+                let other = (side.typed)(words, cell);
+                if other != answer {
+                    self.differ(&side, TYPED, answer, other, || {
+                        format!("cell {cell:02X}, {}", Self::table_shown(words))
+                    });
+                }
+            }
+        }
+    }
+
+    fn page(&mut self, words: &[u32], characters: &[u32], cells_length: usize, rules_length: usize) {
+        let cells_before = self.random_bytes(cells_length + 2 * GUARD);
+        let rules_before = self.random_bytes(rules_length + 2 * GUARD);
+        let (cells_inside, rules_inside) = (GUARD..GUARD + cells_length, GUARD..GUARD + rules_length);
+        let (mut cells, mut rules) = (cells_before.clone(), rules_before.clone());
+        let answer =
+            reference::page(words, characters, &mut cells[cells_inside.clone()], &mut rules[rules_inside.clone()]);
+        self.tally(PAGE, &answer);
+        if answer.is_ok() {
+            for rule in &rules[GUARD..GUARD + characters.len()] {
+                self.rules[usize::from(*rule)] += 1;
+            }
+        }
+        for side in self.sides.clone() {
+            let (mut other_cells, mut other_rules) = (cells_before.clone(), rules_before.clone());
+            let other = (side.page)(
+                words,
+                characters,
+                &mut other_cells[cells_inside.clone()],
+                &mut other_rules[rules_inside.clone()],
+            );
+            if other != answer || other_cells != cells || other_rules != rules {
+                let memory =
+                    if other_cells != cells || other_rules != rules { "buffers differ" } else { "buffers agree" };
+                self.differ(&side, PAGE, answer, other, || {
+                    format!(
+                        "{memory}, buffers of {cells_length} and {rules_length}, characters {characters:X?}, {}",
+                        Self::table_shown(words)
+                    )
+                });
+            }
+        }
+    }
+
+    /// A page of some characters, at times with short buffers or with a character that is no scalar.
+    fn any_page(&mut self, words: &[u32], alphabet: &[u32]) {
+        let length = match self.random.below(8) {
+            0 => 0,
+            1 => self.random.between(20, 80),
+            _ => self.random.between(1, 16),
+        };
+        let mut characters = Vec::new();
+        let clean = self.random.percent(80);
+        while characters.len() < length {
+            let drawn = generate::query(&mut self.random, alphabet);
+            if reference::scalar(drawn) || !clean {
+                characters.push(drawn);
+            }
+        }
+        let mut buffer = || match self.random.below(20) {
+            0 => self.random.below(length + 1),
+            1..=5 => length + self.random.between(1, 9),
+            _ => length,
+        };
+        let (cells, rules) = (buffer(), buffer());
+        self.page(words, &characters, cells, rules);
+    }
+
+    /// A few calls on a lent slice.
+    fn lent(&mut self, words: &[u32], alphabet: &[u32]) {
+        match self.random.below(8) {
+            0..=2 => self.page(words, &[], 0, 0),
+            3 | 4 => self.any_page(words, alphabet),
+            5 | 6 => {
+                let character = generate::query(&mut self.random, alphabet);
+                self.look_up(words, character);
+            }
+            _ => {
+                let cell = self.random.byte();
+                self.typed(words, cell);
+            }
+        }
+    }
+
+    fn length_of_slice(&mut self) -> usize {
+        match self.random.below(10) {
+            0 => 2049,
+            1 => 2050,
+            2 => WORDS + self.random.below(200),
+            _ => WORDS,
+        }
+    }
+
+    fn short_length(&mut self) -> usize {
+        *self.random.pick(&[0, 1, 2, 1024, 2046, 2047, 2047, 2047])
+    }
+
+    /// Everything on one text.
+    fn text(&mut self, text: &generate::Text, lookups: usize, all_cells: bool, damaged: usize) {
+        let length = self.length_of_slice();
+        let (words, count) = self.compile(&text.bytes, length);
+        self.texts += 1;
+        if self.random.percent(4) {
+            let length = self.short_length();
+            self.compile(&text.bytes, length);
+        }
+        let Some(count) = count else {
+            return;
+        };
+        self.accepted += 1;
+        let kept = words.clone();
+        for _ in 0..lookups {
+            let character = generate::query(&mut self.random, &text.alphabet);
+            self.look_up(&words, character);
+        }
+        self.any_page(&words, &text.alphabet);
+        if all_cells {
+            self.typed_all(&words);
+        } else {
+            let cell = match count {
+                0 => self.random.byte(),
+                _ => words[2 * self.random.below(count) + 1] as u8,
+            };
+            self.typed(&words, cell);
+        }
+        if self.random.percent(4) {
+            let length = self.short_length();
+            self.lent(&words[..length], &text.alphabet);
+        }
+        if words != kept {
+            self.differ(&self.sides[0].clone(), LOOK_UP, "nothing written", "the table changed", || shown(&text.bytes));
+        }
+        for _ in 0..damaged {
+            let mut words = words.clone();
+            generate::damage_table(&mut self.random, &mut words, count);
+            self.lent(&words, &text.alphabet);
+        }
+    }
+
+    fn attributes(&mut self, text: &[u8], bytes: &[u8]) {
+        let (placed, start) = self.place_bytes(text);
+        let text = &placed[start..start + text.len()];
+        let (answer, places) = reference::attributes(text);
+        for byte in bytes {
+            let answer = answer.map(|_| reference::cell_of_byte(&places, *byte));
+            self.tally(ATTRIBUTES, &answer);
+            for side in self.sides.clone() {
+                let other = (side.attribute_cell)(text, *byte);
+                if other != answer {
+                    self.differ(&side, ATTRIBUTES, answer, other, || {
+                        let small = shrink(text, |text| {
+                            reference::attribute_cell(text, *byte) != (side.attribute_cell)(text, *byte)
+                        });
+                        format!("byte {byte:02X}, text \"{}\"\n  smaller \"{}\"", shown(text), shown(&small))
+                    });
+                }
+            }
+        }
+    }
+}
+
+#[cfg(feature = "library")]
+fn sides_of(case: u64) -> Vec<Side> {
+    // The hashed side is looked at now and then, for the benchmark's sake.
+    match case % 16 {
+        0 => vec![harness::side::LIBRARY, HASHED],
+        _ => vec![harness::side::LIBRARY],
+    }
+}
+
+#[cfg(not(feature = "library"))]
+fn sides_of(_case: u64) -> Vec<Side> {
+    vec![HASHED]
+}
+
+fn main() {
+    let seed: u64 = match std::env::var("HEATHDAPPLE_SEED") {
+        Ok(seed) => seed.parse().expect("HEATHDAPPLE_SEED is a number"),
+        Err(_) => 1,
+    };
+    println!("comparing {} with the reference, seed {seed}", sides_of(1)[0].name);
+    let mut run = Run {
+        sides: Vec::new(),
+        random: Random::new(0),
+        case: String::new(),
+        calls: [0; 5],
+        refusals: [[0; 17]; 5],
+        rules: [0; 32],
+        links: 0,
+        texts: 0,
+        accepted: 0,
+        differences: 0,
+    };
+    let begun = Instant::now();
+    let mut part = |name: &str, part: u64, cases: u64, each: &dyn Fn(&mut Run, u64)| {
+        let begun = Instant::now();
+        let part_seed = Random::new(seed).bits() ^ Random::new(part << 40).bits();
+        for case in 0..cases {
+            if run.differences >= ENOUGH {
+                println!("  {name}: stopped at case {case}");
+                return;
+            }
+            run.sides = sides_of(case);
+            run.random = Random::new(Random::new(part_seed.wrapping_add(case)).bits());
+            run.case = format!("seed {seed}, {name} {case}");
+            each(&mut run, case);
+        }
+        println!("  {name:<18} {cases:>7} cases, seed {part_seed:016x}, {:.1} s", begun.elapsed().as_secs_f64());
+    };
+
+    part("texts", 1, TEXTS, &|run, case| {
+        let text = generate::text(&mut run.random);
+        run.text(&text, 5, case % 32 == 0, usize::from(case % 2 == 0));
+    });
+    part("long texts", 2, LONG_TEXTS, &|run, _| {
+        let text = generate::long_text(&mut run.random);
+        run.text(&text, 1, false, 0);
+    });
+    part("large texts", 3, LARGE_TEXTS, &|run, case| {
+        let text = generate::large_text(&mut run.random);
+        run.text(&text, 2, case == 0, 2);
+    });
+    part("chains", 4, CHAIN_TEXTS, &|run, _| {
+        let links = run.random.between(1, 120);
+        let text = generate::chain_text(&mut run.random, links);
+        run.text(&text, 4, false, 4);
+    });
+    part("long chains", 5, LONG_CHAINS, &|run, case| {
+        let links = if case == 0 { PAIRS - 1 } else { 400 };
+        let text = generate::backward_chain_text(links);
+        let (words, count) = run.compile(text.as_bytes(), WORDS);
+        assert_eq!(count, Some(links + 1));
+        run.look_up(&words, 0x400);
+        run.page(&words, &[0x400, 0xF041, 0x401], 3, 3);
+        run.compile(format!("{text}alias \\u0400 a\n").as_bytes(), WORDS);
+    });
+    part("tables", 6, TABLES, &|run, _| {
+        let mut words = vec![0; run.length_of_slice()];
+        let alphabet = generate::any_table(&mut run.random, &mut words[..WORDS]);
+        for _ in 0..2 {
+            run.lent(&words, &alphabet);
+        }
+    });
+    part("any two bytes", 8, 1 << 16, &|run, case| {
+        let two = [(case >> 8) as u8, case as u8];
+        run.compile(&[b"char ", two.as_slice(), b" 1"].concat(), WORDS);
+        run.compile(&[b"ifNotGlyph a char a ", two.as_slice()].concat(), WORDS);
+    });
+    part("UTF-8 sequences", 9, 64 * 1000, &|run, case| {
+        // Each lead byte with continuations at the borders of what may follow.
+        let at = |k: u64| [0x0A, 0x7F, 0x80, 0x8F, 0x90, 0x9F, 0xA0, 0xBF, 0xC0, 0xFF][(k % 10) as usize];
+        let sequence = [0xC0 + (case / 1000) as u8, at(case), at(case / 10), at(case / 100)];
+        let kept = 1 + run.random.below(4);
+        run.compile(&[b"#", &sequence[..kept]].concat(), WORDS);
+        run.compile(&[b"glyph ", sequence.as_slice(), b" 1"].concat(), WORDS);
+    });
+    part("every character", 10, 3, &|run, case| {
+        let texts = [
+            "",
+            "char A 1\nchar C 2\nchar E 3\nchar I 4\nchar N 5\nchar O 6\nchar U 7\nchar Y 8\nchar a 12\nchar c 13\nchar e 14\n\
+             char i 15\nchar n 16\nchar o 17\nchar u 18\nchar y 23\nchar x 24\nchar s 25\nchar \\s 26\nchar - 27\nchar ' 28\n\
+             char \" 34\nchar \\uFFFD 35\nchar ? 36\nalias \\u00E4 \\uF041\nglyph \\u2801 37\n",
+            "char ? 1\nglyph \\uF041 2\nglyph A 3\nalias \\u2801 A\nalias \\uF042 A\nalias B \\uF041\nalias a \\u0301\n",
+        ];
+        let (words, count) = run.compile(texts[case as usize].as_bytes(), WORDS);
+        assert!(count.is_some());
+        let page: Vec<u32> = (0..0x11_0000).filter(|character| reference::scalar(*character)).collect();
+        run.page(&words, &page, page.len(), page.len());
+        for character in (0xD7FF..=0xE000).chain(0x10_FFFF..0x11_0100).chain(0..0x180) {
+            run.look_up(&words, character);
+        }
+    });
+    part("attributes texts", 7, ATTRIBUTES_TEXTS, &|run, case| {
+        let text = generate::attributes_text(&mut run.random);
+        let bytes: Vec<u8> = match case % 25 {
+            0 => (0..=255).collect(),
+            _ => vec![run.random.byte(), run.random.byte()],
+        };
+        run.attributes(&text, &bytes);
+    });
+
+    println!("texts of tables: {}, accepted {} ({} %)", run.texts, run.accepted, 100 * run.accepted / run.texts);
+    println!("longest walk looked up: {}", run.links);
+    let all_calls: u64 = run.calls.iter().sum();
+    println!("calls compared: {all_calls}");
+    print!("  {:<12}", "");
+    CALLS.iter().for_each(|call| print!("{call:>12}"));
+    println!("{:>12}", "all");
+    print!("  {:<12}", "calls");
+    run.calls.iter().for_each(|count| print!("{count:>12}"));
+    println!("{all_calls:>12}");
+    let mut short = Vec::new();
+    for number in 1..=16 {
+        let counts: Vec<u64> = run.refusals.iter().map(|call| call[number]).collect();
+        let all: u64 = counts.iter().sum();
+        print!("  refusal {number:<4}");
+        counts.iter().for_each(|count| print!("{count:>12}"));
+        println!("{all:>12}");
+        if all < LEAST {
+            short.push(format!("refusal {number}"));
+        }
+    }
+    for rule in RULES {
+        println!("  rule {rule:<4} {:>12}", run.rules[rule]);
+        if run.rules[rule] < LEAST {
+            short.push(format!("rule {rule}"));
+        }
+    }
+    let others: u64 = (0..run.rules.len()).filter(|rule| !RULES.contains(rule)).map(|rule| run.rules[rule]).sum();
+    println!("time {:.1} s, differences {}", begun.elapsed().as_secs_f64(), run.differences);
+
+    let mut failed = false;
+    let mut fail = |why: String| {
+        println!("FAILED: {why}");
+        failed = true;
+    };
+    if run.differences > 0 {
+        fail(format!("{} differences", run.differences));
+    }
+    if !short.is_empty() {
+        fail(format!("seen less than {LEAST} times: {}", short.join(", ")));
+    }
+    if 2 * run.accepted < run.texts {
+        fail("less than half of the texts were accepted".into());
+    }
+    if run.texts < 100_000 {
+        fail("less than 100,000 texts".into());
+    }
+    if others > 0 {
+        fail("a rule number that no lookup gives".into());
+    }
+    if failed {
+        exit(1);
+    }
+    println!("compare: ok");
+}

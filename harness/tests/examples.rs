@@ -1,0 +1,456 @@
+//! The worked examples and edges of document 01 and the settled readings, with the answers written out, on every side.
+
+use harness::reference::{self, Place, Refusal, Shown, WORDS};
+use harness::side::sides;
+
+const SMALL: &str = "char a 1\nchar b (12)\nglyph A 17\nalias \\u00E4 a\nalias \\u03B1 \\u00E4\nchar ? 1456\n";
+
+type Answer = Result<u32, (u32, u32)>;
+
+fn compiled(text: &[u8]) -> Vec<u32> {
+    let mut words = vec![7; WORDS];
+    reference::compile(text, &mut words).expect("an accepted text");
+    words
+}
+
+fn pair(refusal: Refusal) -> (u32, u32) {
+    (refusal.number, refusal.place)
+}
+
+/// Compiles on every side and looks at the answer and the words.
+fn expect_bytes(text: &[u8], answer: Answer, pairs: Option<&[[u32; 2]]>) {
+    for side in sides() {
+        let mut words = vec![0xA5A5_A5A5; WORDS + 3];
+        let got = (side.compile)(text, &mut words).map_err(pair);
+        assert_eq!(got, answer, "{}: {:?}", side.name, String::from_utf8_lossy(text));
+        assert_eq!(words[WORDS..], [0xA5A5_A5A5; 3], "{}", side.name);
+        match answer {
+            Err((1, _)) => assert!(words.iter().all(|word| *word == 0xA5A5_A5A5), "{}", side.name),
+            Err(_) => assert!(words[..WORDS].iter().all(|word| *word == 0), "{}", side.name),
+            Ok(count) => assert!(words[2 * count as usize..WORDS].iter().all(|word| *word == 0), "{}", side.name),
+        }
+        if let Some(pairs) = pairs {
+            assert_eq!(words[..2 * pairs.len()], pairs.concat(), "{}", side.name);
+        }
+    }
+}
+
+fn accepts(text: &str, pairs: &[[u32; 2]]) {
+    expect_bytes(text.as_bytes(), Ok(pairs.len() as u32), Some(pairs));
+}
+
+fn refuses(text: &str, number: u32) {
+    expect_bytes(text.as_bytes(), Err((number, 1)), None);
+}
+
+fn refuses_at(text: &str, number: u32, line: u32) {
+    expect_bytes(text.as_bytes(), Err((number, line)), None);
+}
+
+fn shows(text: &str, character: u32, cell: u8, rule: u8, links: u32) {
+    let words = compiled(text.as_bytes());
+    for side in sides() {
+        let shown = Ok(Shown { cell, rule, links });
+        assert_eq!((side.look_up)(&words, character), shown, "{}: {text:?} {character:X}", side.name);
+        let (mut cells, mut rules) = ([9, 9], [9, 9]);
+        assert_eq!((side.page)(&words, &[character], &mut cells, &mut rules), Ok(()), "{}", side.name);
+        assert_eq!((cells, rules), ([cell, 9], [rule, 9]), "{}", side.name);
+    }
+}
+
+fn types(text: &str, cell: u8, character: Option<u32>) {
+    let words = compiled(text.as_bytes());
+    for side in sides() {
+        assert_eq!((side.typed)(&words, cell), Ok(character), "{}: {text:?} {cell:X}", side.name);
+    }
+}
+
+fn char_pair(character: char, dots: u32) -> [u32; 2] {
+    [character as u32, 0x0100_0000 + dots]
+}
+
+fn glyph_pair(character: char, dots: u32) -> [u32; 2] {
+    [character as u32, 0x0200_0000 + dots]
+}
+
+fn alias_pair(character: char, target: char) -> [u32; 2] {
+    [character as u32, 0x0300_0000 + target as u32]
+}
+
+#[test]
+fn small_table() {
+    accepts(
+        SMALL,
+        &[
+            char_pair('a', 1),
+            char_pair('b', 3),
+            glyph_pair('A', 0x41),
+            alias_pair('ä', 'a'),
+            alias_pair('α', 'ä'),
+            char_pair('?', 0x39),
+        ],
+    );
+    shows(SMALL, 0x61, 0x01, 3, 0);
+    shows(SMALL, 0xE4, 0x01, 4, 1);
+    shows(SMALL, 0x3B1, 0x01, 4, 2);
+    shows(SMALL, 0xE0, 0x01, 5, 0);
+    shows(SMALL, 0xC5, 0x41, 5, 0);
+    shows(SMALL, 0xE6, 0x01, 6, 0);
+    shows(SMALL, 0xE9, 0x39, 8, 0);
+    shows(SMALL, 0x2809, 0x09, 1, 0);
+    shows(SMALL, 0xF061, 0x01, 19, 0);
+    types(SMALL, 0x41, None);
+    types(SMALL, 0x01, Some(0x61));
+    shows("", 0x61, 0xFF, 9, 0);
+}
+
+#[test]
+fn lengths() {
+    let line = |length: usize| format!("char a 1{}", " ".repeat(length - 8));
+    accepts(&line(1024), &[char_pair('a', 1)]);
+    accepts(&format!("{}\r\n", line(1024)), &[char_pair('a', 1)]);
+    accepts(&format!("{}\r", line(1024)), &[char_pair('a', 1)]);
+    refuses(&line(1025), 3);
+    refuses(&format!("{}\r\r\n", line(1024)), 3);
+    refuses(&format!("#{}", "x".repeat(1024)), 3);
+    refuses(&" ".repeat(1025), 3);
+    expect_bytes(&[[0xFF; 1025].as_slice(), b"\n"].concat(), Err((3, 1)), None);
+    accepts(&"\n".repeat(65_536), &[]);
+    refuses_at(&"\n".repeat(65_537), 1, 0);
+    refuses_at(&format!("{}x", "\n".repeat(65_535)), 5, 65_536);
+    for side in sides() {
+        for length in [0, 1, 2047] {
+            let mut words = vec![5; length];
+            let short = Err(Refusal { number: 2, place: 0 });
+            assert_eq!((side.compile)(b"", &mut words), short, "{}", side.name);
+            assert_eq!((side.compile)(&[b'\n'; 65_537], &mut words), short, "{}", side.name);
+            assert!(words.iter().all(|word| *word == 5), "{}", side.name);
+            assert_eq!((side.look_up)(&words, 0xD800).map_err(pair), Err((2, 0)), "{}", side.name);
+            assert_eq!((side.typed)(&words, 0).map_err(pair), Err((2, 0)), "{}", side.name);
+        }
+    }
+}
+
+#[test]
+fn count_of_definitions() {
+    let text = |count: u32| -> String { (0..count).map(|k| format!("glyph \\u{:04X} 1\n", 0x4000 + k)).collect() };
+    expect_bytes(text(1024).as_bytes(), Ok(1024), None);
+    refuses_at(&text(1025), 13, 1025);
+    let full = text(1024);
+    expect_bytes(format!("{full}ifCell 1 char a 1").as_bytes(), Ok(1024), None);
+    refuses_at(&format!("{full}ifNotCell 1 char a 1"), 13, 1025);
+    refuses_at(&format!("{full}char \\u4000 1"), 11, 1025);
+    refuses_at(&format!("{full}alias a a"), 12, 1025);
+}
+
+#[test]
+fn lines() {
+    accepts("", &[]);
+    accepts("\r", &[]);
+    accepts("\n\r", &[]);
+    accepts(" \t\n  # \\q\n#\r\n", &[]);
+    accepts("char a 1\r", &[char_pair('a', 1)]);
+    accepts("\tchar\t\ta \t1\t", &[char_pair('a', 1)]);
+    refuses("char a 1\r\r\n", 8);
+    refuses("\r\r\n", 5);
+    accepts("char \r 1", &[char_pair('\r', 1)]);
+    refuses_at("char a\r\n", 6, 1);
+    accepts(
+        "char \u{A0} 1\nchar \0 2\nchar \u{B} 3\nchar \u{FEFF} 4",
+        &[char_pair('\u{A0}', 1), char_pair('\0', 2), char_pair('\u{B}', 4), char_pair('\u{FEFF}', 8)],
+    );
+    refuses("\u{FEFF}char a 1", 5);
+    refuses_at("char a 1\nchar b 2\nx", 5, 3);
+    refuses("Char a 1", 5);
+    refuses("dot 1 =blink", 5);
+    expect_bytes(b"# \xC0\x80", Err((4, 1)), None);
+    expect_bytes(b"#\n \xED\xA0\x80", Err((4, 2)), None);
+    expect_bytes(b"x \xF4\x90\x80\x80", Err((4, 1)), None);
+    expect_bytes(b"# \xF4\x8F\xBF\xBF \xEE\x80\x80", Ok(0), None);
+    expect_bytes(b"# \xE2\x82\n", Err((4, 1)), None);
+}
+
+#[test]
+fn ends_and_comments() {
+    accepts("char a 1 # b c", &[char_pair('a', 1)]);
+    accepts("char a 1 #b", &[char_pair('a', 1)]);
+    accepts("char # 1", &[char_pair('#', 1)]);
+    accepts("char a (1 2) #", &[char_pair('a', 3)]);
+    refuses("char a # note", 8);
+    refuses("alias a #note", 7);
+    refuses("alias a # note", 9);
+    refuses("ifCell # char a 1", 8);
+    refuses("char #", 6);
+    refuses("char", 6);
+    refuses("char a", 6);
+    refuses("alias a", 6);
+    refuses("ifGlyph", 6);
+    refuses("ifGlyph a", 6);
+    refuses("ifGlyph a #char b 1", 6);
+    refuses("ifGlyph a # char b 1", 6);
+    refuses("ifGlyph \\q foo", 7);
+    refuses("ifGlyph a foo \\q", 5);
+    refuses("ifCell 9 ifGlyph", 8);
+    refuses("char a 1 x", 9);
+    refuses("char a 1 \\#", 9);
+    refuses("char a (1 2) 3", 9);
+}
+
+#[test]
+fn characters() {
+    accepts(
+        "char \\b 1\nchar \\t 1\nchar \\n 1\nchar \\v 1\nchar \\f 1\nchar \\r 1\nchar \\s 1\nchar \\# 1\nchar \\\\ 1\n\
+         char \\o101 1\nchar \\x4a 1\nchar \\XFf 1\nchar \\u20aC 1\nchar \\U0010FFFF 1\nchar \\o777 1\nchar é 1",
+        &[8, 9, 10, 11, 12, 13, 32, 35, 92, 0x41, 0x4A, 0xFF, 0x20AC, 0x10FFFF, 0x1FF, 0xE9].map(|c| [c, 0x0100_0001]),
+    );
+    let bad = [
+        "ab", "\\", "\\q", "\\B", "\\S", "\\R", "\\uD800", "\\uDFFF", "\\U0000D800", "\\U00110000", "\\UFFFFFFFF",
+        "\\u41", "\\u00041", "\\x4", "\\x041", "\\x+4", "\\o10", "\\o1010", "\\o800", "\\O101", "\\<a>", "\\{a}",
+        "\\ss", "\\xg0", "é\\",
+    ];
+    for word in bad {
+        for line in
+            [format!("char {word} 1"), format!("alias a {word}"), format!("byte {word} 1"), format!("ifGlyph {word} x")]
+        {
+            refuses(&line, 7);
+        }
+    }
+    refuses("char \\ 145", 7);
+    accepts(
+        "byte é 1\nbyte \\x41 2\nbyte \\o377 0\nbyte \\s ()",
+        &[glyph_pair('é', 1), glyph_pair('A', 2), glyph_pair('ÿ', 0), glyph_pair(' ', 0)],
+    );
+    for word in ["\\o777", "\\o400", "\\u0041", "\\U00000041", "Ā", "€"] {
+        refuses(&format!("byte {word} 1"), 7);
+    }
+}
+
+#[test]
+fn dots() {
+    for (word, dots) in [
+        ("0", 0),
+        ("()", 0),
+        ("( \t)", 0),
+        ("1", 1),
+        ("8", 128),
+        ("87654321", 255),
+        ("(12)", 3),
+        ("( 4 1 )", 9),
+        ("(8\t1)", 129),
+    ] {
+        accepts(&format!("char a {word}"), &[char_pair('a', dots)]);
+        accepts(&format!("glyph a {word} #x"), &[glyph_pair('a', dots)]);
+    }
+    for word in [
+        "9", "11", "00", "01", "10", "121", "(11)", "(1 1)", "(0)", "(1 0)", "(9)", "(1 2", "(", "( ", ")", "(12)x",
+        "(12)#c", "12#c", "()()", "(1)2", "1(2)", "((1))", "(1))", "a", "+1", "1,2", "(1 # 2)", "(1\r)", "é",
+    ] {
+        refuses(&format!("char a {word}"), 8);
+    }
+    for word in ["(1)", "()", "9", "11", "01", "#", "a"] {
+        refuses(&format!("ifCell {word} x"), 8);
+        refuses(&format!("ifNotCell {word} x"), 8);
+    }
+}
+
+#[test]
+fn conditions() {
+    let line = |count: usize| format!("{}char a 1", "ifNotGlyph a ".repeat(count));
+    accepts(&line(8), &[char_pair('a', 1)]);
+    refuses(&line(9), 10);
+    refuses(&format!("{}ifCell", "ifNotGlyph a ".repeat(8)), 10);
+    refuses(&format!("{}ifCell 9", "ifNotGlyph a ".repeat(8)), 10);
+    refuses(&format!("{}\\q", "ifNotGlyph a ".repeat(8)), 5);
+    refuses("ifGlyph a char b 9", 8);
+    refuses("ifGlyph a char b 1 x", 9);
+    accepts("ifGlyph a char b 1\nifNotGlyph a char a 1\nifGlyph a char c 2", &[char_pair('a', 1), char_pair('c', 2)]);
+    accepts(
+        "glyph a 1\nifCell 1 char b 1\nifNotCell 1 char c 1\nifCell 1 char d 2",
+        &[glyph_pair('a', 1), char_pair('c', 1), char_pair('d', 2)],
+    );
+    // A failed condition hides 11 and 12.
+    accepts("char a 1\nifGlyph b char a 2\nifGlyph b alias b b", &[char_pair('a', 1)]);
+    // By rule 4, through rule 2, and never by rules 1 or 5 to 9.
+    accepts(
+        "alias b a\nifGlyph b char c 1\nglyph a 1\nifGlyph b char d 1",
+        &[alias_pair('b', 'a'), glyph_pair('a', 1), char_pair('d', 1)],
+    );
+    accepts("char a 1\nifGlyph \\uF061 char c 1\nifGlyph \\u00E0 char d 1", &[char_pair('a', 1), char_pair('c', 1)]);
+    accepts(
+        "char \\u2801 1\nifGlyph \\u2801 char c 1\nifNotGlyph \\u2801 char d 1",
+        &[char_pair('\u{2801}', 1), char_pair('d', 1)],
+    );
+    accepts("char \\uF061 1\nifGlyph \\uF061 char c 1", &[char_pair('\u{F061}', 1)]);
+}
+
+#[test]
+fn repeats_and_loops() {
+    refuses_at("char a 1\nglyph a 1", 11, 2);
+    refuses_at("alias a b\nbyte a 1", 11, 2);
+    refuses_at("char a 1\nalias a a", 11, 2);
+    refuses("alias a a", 12);
+    refuses_at("alias a b\nalias b a", 12, 2);
+    refuses_at("alias a b\nalias c a\nalias b c", 12, 3);
+    accepts("alias a b\nalias b c\nalias d a", &[alias_pair('a', 'b'), alias_pair('b', 'c'), alias_pair('d', 'a')]);
+}
+
+#[test]
+fn rules() {
+    // Rule 5 takes only an explicit cell of the base.
+    shows("char b 1\nalias a b\n", 0xE0, 0xFF, 9, 0);
+    // Rule 5 before 7 before 8; links stay under them.
+    shows("alias \\u00E0 z\nchar a 1\n", 0xE0, 1, 5, 1);
+    shows("alias z \\u00E0\nchar a 1\n", 'z' as u32, 0xFF, 9, 1);
+    shows("alias z y\nalias y x\nglyph \\uFFFD 2\nchar ? 3\n", 'z' as u32, 2, 7, 2);
+    shows("char ? 3\n", 0xF0E0, 4, 24, 0);
+    shows("char A 3\nalias x \\uF041\n", 'x' as u32, 0xFF, 9, 1);
+    shows("char \\uF041 3\nalias x \\uF041\n", 'x' as u32, 4, 4, 1);
+    shows("char \\uF041 3\n", 0xF041, 0xFF, 25, 0);
+    shows("char \\u2801 3\nalias x \\u2801\n", 'x' as u32, 4, 4, 1);
+    shows("char \\u2801 3\n", 0x2801, 1, 1, 0);
+    shows("alias A x\nchar x 3\n", 0xF041, 4, 20, 1);
+    shows("char A 3\n", 0xF0C0, 4, 21, 0);
+    shows("char A 3\n", 0xF0C6, 4, 22, 0);
+    shows("char \\uFFFD 3\n", 0xF0C6, 4, 23, 0);
+    shows("char \\s 3\nchar - 4\nchar ' 5\nchar \" 6\n", 0xA0, 4, 6, 0);
+    for (character, cell) in [(0x2010, 8), (0x2014, 8), (0x2018, 16), (0x2019, 16), (0x201C, 32), (0x201D, 32)] {
+        shows("char \\s 3\nchar - 4\nchar ' 5\nchar \" 6\n", character, cell, 6, 0);
+    }
+    for character in [0x200F, 0x2015, 0x2017, 0x201A, 0x201B, 0x201E, 0x27FF, 0x2900, 0xEFFF, 0xF100, 0, 0x10FFFF] {
+        shows("char \\s 3\nchar - 4\nchar ' 5\nchar \" 6\n", character, 0xFF, 9, 0);
+    }
+}
+
+#[test]
+fn typing() {
+    types("glyph x 1\nchar a 1\nchar b 1\n", 1, Some('a' as u32));
+    types("char \\x00 1\n", 1, Some(0));
+    types("char \\u2801 12\n", 3, Some(0x2801));
+    types("char a 0\n", 0, Some('a' as u32));
+    types("byte a 1\nalias b a\n", 1, None);
+}
+
+#[test]
+fn lent_tables() {
+    let table = |pairs: &[[u32; 2]]| {
+        let mut words = pairs.concat();
+        words.resize(WORDS, 0);
+        words.extend([1, 2, 3]);
+        words
+    };
+    let sound: [&[[u32; 2]]; 5] = [
+        &[],
+        &[[0, 0x0100_0000]],
+        &[[1, 0x0300_0000]],
+        &[[0x10FFFF, 0x0310_FFFE], [0x10FFFE, 0x0200_00FF]],
+        &[[1, 0x0300_0002], [2, 0x0300_0003]],
+    ];
+    for pairs in sound {
+        for side in sides() {
+            assert_eq!((side.page)(&table(pairs), &[], &mut [], &mut []), Ok(()), "{} {pairs:X?}", side.name);
+        }
+    }
+    let faulty: [(&[[u32; 2]], u32); 16] = [
+        (&[[1, 0]], 0),
+        (&[[0, 0], [1, 0x0100_0000]], 1),
+        (&[[1, 0x0100_0000], [0, 0], [0, 0], [0, 1]], 3),
+        (&[[1, 0x0000_0001]], 0),
+        (&[[1, 0x0400_0000]], 0),
+        (&[[1, 0xFF00_0000]], 0),
+        (&[[1, 0x0100_0100]], 0),
+        (&[[1, 0x0200_0100]], 0),
+        (&[[1, 0x0300_D800]], 0),
+        (&[[1, 0x0311_0000]], 0),
+        (&[[0xDFFF, 0x0100_0000]], 0),
+        (&[[0x11_0000, 0x0100_0000]], 0),
+        (&[[1, 0x0100_0000], [1, 0x0200_0000]], 1),
+        (&[[1, 0x0300_0001]], 0),
+        (&[[1, 0x0300_0002], [2, 0x0300_0001]], 1),
+        (&[[0, 0x0300_0000]], 0),
+    ];
+    for (pairs, place) in faulty {
+        let words = table(pairs);
+        for side in sides() {
+            let fault = Err((15, place));
+            assert_eq!(
+                (side.page)(&words, &[0xD800], &mut [0], &mut [0]).map_err(pair),
+                fault,
+                "{} {pairs:X?}",
+                side.name
+            );
+            assert_eq!((side.look_up)(&words, 0xD800).map_err(pair), fault.map(|()| unreachable!()), "{}", side.name);
+            assert_eq!((side.typed)(&words, 0).map_err(pair), fault.map(|()| unreachable!()), "{}", side.name);
+        }
+        assert_eq!(reference::typing(&words).1, [None; 256]);
+    }
+}
+
+#[test]
+fn pages() {
+    let words = compiled(SMALL.as_bytes());
+    for side in sides() {
+        let (mut cells, mut rules) = ([9; 4], [8; 5]);
+        assert_eq!((side.page)(&words, &[], &mut [], &mut []), Ok(()), "{}", side.name);
+        assert_eq!((side.page)(&words, &[0x61, 0x2809, 0xF061], &mut cells, &mut rules), Ok(()), "{}", side.name);
+        assert_eq!((cells, rules), ([1, 9, 1, 9], [3, 1, 19, 8, 8]), "{}", side.name);
+        let refusal = (side.page)(&words, &[0x62, 0x62, 0x11_0000, 0xD800], &mut cells, &mut rules);
+        assert_eq!(refusal.map_err(pair), Err((14, 2)), "{}", side.name);
+        let refusal = (side.page)(&words, &[0x62; 5], &mut cells, &mut rules);
+        assert_eq!(refusal.map_err(pair), Err((2, 0)), "{}", side.name);
+        let refusal = (side.page)(&words, &[0xD800; 4], &mut cells, &mut rules[..3]);
+        assert_eq!(refusal.map_err(pair), Err((2, 0)), "{}", side.name);
+        assert_eq!((cells, rules), ([1, 9, 1, 9], [3, 1, 19, 8, 8]), "{}", side.name);
+        assert_eq!((side.look_up)(&words, 0xD800).map_err(pair), Err((14, 0)), "{}", side.name);
+    }
+}
+
+#[test]
+fn attributes() {
+    let text = b"dot 1 =fg-red\ndot 4 ~bg-blue\n";
+    assert_eq!(reference::attributes(text).0, Ok(2));
+    for side in sides() {
+        for (byte, cell) in [(0x04, 0x09), (0x10, 0x00), (0x00, 0x08), (0x14, 0x01)] {
+            assert_eq!((side.attribute_cell)(text, byte), Ok(cell), "{} {byte:X}", side.name);
+        }
+        assert_eq!((side.attribute_cell)(b"", 0xFF), Ok(0), "{}", side.name);
+        assert_eq!((side.attribute_cell)(&[b'\n'; 65_537], 0).map_err(pair), Err((1, 0)), "{}", side.name);
+        let faults: [(&[u8], u32, u32); 24] = [
+            (b"dot 12 =blink", 8, 1),
+            (b"dot 0 =blink", 8, 1),
+            (b"dot 9 =blink", 8, 1),
+            (b"dot (1) =blink", 8, 1),
+            (b"dot 1=blink", 8, 1),
+            (b"dot #", 8, 1),
+            (b"dot", 6, 1),
+            (b"dot 1", 6, 1),
+            (b"dot 1 # x", 16, 1),
+            (b"dot 1 =", 16, 1),
+            (b"dot 1 ~", 16, 1),
+            (b"dot 1 = fg-red", 16, 1),
+            (b"dot 1 =FG-RED", 16, 1),
+            (b"dot 1 on", 16, 1),
+            (b"dot 1 fg-red", 16, 1),
+            (b"dot 1 =fg-redd", 16, 1),
+            (b"dot 1 =fg-red#", 16, 1),
+            (b"dot 1 =blink x", 9, 1),
+            (b"#\ndot 1 =blink\ndot 1 =blink", 11, 3),
+            (b"ifCell 1 dot 1 =blink", 5, 1),
+            (b"Dot 1 =blink", 5, 1),
+            (b"char a 1", 5, 1),
+            (b"\n#\xFF", 4, 2),
+            (&[b' '; 1025], 3, 1),
+        ];
+        for (text, number, line) in faults {
+            let answer = (side.attribute_cell)(text, 0).map_err(pair);
+            assert_eq!(answer, Err((number, line)), "{}: {:?}", side.name, String::from_utf8_lossy(text));
+            assert_eq!(reference::attributes(text).1, [Place::Unnamed; 8]);
+        }
+        let names = ["fg-blue", "fg-green", "fg-red", "fg-bright", "bg-blue", "bg-green", "bg-red", "blink"];
+        let on: String = (0..8).map(|d| format!("dot {} ={} # x\r\n", d + 1, names[d])).collect();
+        let off: String = (0..8).rev().map(|d| format!("\tdot\t{} ~{}\n\n", d + 1, names[d])).collect();
+        for byte in 0..=255 {
+            assert_eq!((side.attribute_cell)(on.as_bytes(), byte), Ok(byte), "{}", side.name);
+            assert_eq!((side.attribute_cell)(off.as_bytes(), byte), Ok(!byte), "{}", side.name);
+        }
+    }
+}
