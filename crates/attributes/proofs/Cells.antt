@@ -1,13 +1,15 @@
 -- Whether a dot is raised, and the sum of the weights, dot by dot.
-use Prim.Native.Nat.{ℕ, _+_, _%_, _≤_, _<_, _^_}
+use Prim.Native.Nat.{ℕ, _+_, _*_, _%_, _≤_, _<_, _^_}
 use mathlib.Core.Path.{_≡_, sym, _∙_}
-use mathlib.Core.Bool.{Bool, true, false, not}
+use mathlib.Core.Bool.{Bool, not}
 use mathlib.Core.List.{List}
 use native.Mathlib.Nat.{add-zero, two-pow-succ, pow-le-pow-right, mod-eq-of-lt}
 use native.Mathlib.Numerals.{add-one}
 use native.Mathlib.Omega.{arith}
 use lib.ListN.{length, drop, getD, drop-of-length-le}
 use lib.Seq.{drop-cons}
+use Rattle.basics.specs.Choice.{pick}
+use Rattle.basics.proofs.Tests.{by-test}
 use Rattle.attributes.specs.Cells.{isOn, isRaised, unnamedRaised, cellFrom, place}
 use Rattle.attributes.specs.declared.Attribute.{Attribute}
 use Rattle.attributes.specs.declared.State.{State}
@@ -21,49 +23,45 @@ module _ (unnamed : Bool) (state : State) (byte : ℕ) (name : Attribute) (r : B
   pub raised-off : state ≡ Off name → not r ≡ isRaised unnamed state byte
   raised-off q = rw (q, e)
 
-past-three : (i : ℕ) → (i ≡ 0 → ⊥) → (i ≡ 1 → ⊥) → (i ≡ 2 → ⊥) → (i ≡ 3 → ⊥) → 3 < i
-past-three i a b c d = omega arith
+weight-small : (i : ℕ) → i < 8 → 2 ^ i ≤ 128
+weight-small i h = let p : i ≤ 7 = omega arith in pow-le-pow-right (omega arith) p
 
-is-seven : (i : ℕ) → 3 < i → i < 8 → (i ≡ 4 → ⊥) → (i ≡ 5 → ⊥) → (i ≡ 6 → ⊥) → i ≡ 7
-is-seven i h k a b c = omega arith
+-- a shift that loses no bit
+pub shifted : (i : ℕ) → i < 8 → (1 * 2 ^ i) % 65536 ≡ 2 ^ i
+shifted i h =
+    let fits : 1 * 2 ^ i < 65536 = omega (arith, weight-small i h) in
+    mod-eq-of-lt fits ∙ omega arith
 
--- what is left of eight when the first seven are not it
-pub last-weight : (i : ℕ) → i < 8 → (i ≡ 0 → ⊥) → (i ≡ 1 → ⊥) → (i ≡ 2 → ⊥) → (i ≡ 3 → ⊥) → (i ≡ 4 → ⊥) → (i ≡ 5 → ⊥) → (i ≡ 6 → ⊥) → 128 ≡ 2 ^ i
-last-weight i h n0 n1 n2 n3 n4 n5 n6 = rw (is-seven i (past-three i n0 n1 n2 n3) h n4 n5 n6)
+-- cell is the sum of the weights of the dots below i, x that of all
+pub record Summed (x : ℕ) (places : List Place) (byte cell i : ℕ) : Type 0 where
+  pub within : i ≤ 8
+  pub small : cell < 2 ^ i
+  pub left : x ≡ cell + cellFrom (drop i places) byte i
 
--- cell is the sum of the weights of the dots below i, new that with dot i + 1
-module _ (cell i : ℕ) (small : cell < 2 ^ i) where
+module _ (x : ℕ) (places : List Place) (byte cell i : ℕ) (size : length places ≡ 8) (here : Summed x places byte cell i) where
   pub weight-fits : (w : ℕ) → i < 8 → w ≡ 2 ^ i → cell + w < 65536
-  weight-fits w h e =
-      let p : i ≤ 7 = omega arith in
-      let q : 2 ^ i ≤ 2 ^ 7 = pow-le-pow-right (omega arith) p in
-      omega arith
+  weight-fits w h e = omega (arith, weight-small i h)
 
-  pub small-on : (w new : ℕ) → w ≡ 2 ^ i → new ≡ cell + w → new < 2 ^ (i + 1)
-  small-on w new e f = rw (add-one i, two-pow-succ i) (omega arith)
-
-  pub small-off : (new : ℕ) → new ≡ cell → new < 2 ^ (i + 1)
-  small-off new f = rw (add-one i, two-pow-succ i) (omega arith)
-
--- x is what the loop is to answer
-module _ (x : ℕ) (places : List Place) (byte cell i : ℕ) (size : length places ≡ 8) (inv : x ≡ cell + cellFrom (drop i places) byte i) where
-  module _ (h : i < 8) (r : Bool) (e : r ≡ isRaised unnamedRaised (getD places i (place Unnamed) .state) byte) where
-    pub cell-on : (w new : ℕ) → r ≡ true → w ≡ 2 ^ i → new ≡ cell + w → x ≡ new + cellFrom (drop (i + 1) places) byte (i + 1)
-    unfolding cellFrom
-    cell-on w new q f g =
-        let k : i < length places = omega arith in
-        inv ∙ rw (drop-cons places i (place Unnamed), ← e, q, g, f, add-one i) (omega arith)
-
-    pub cell-off : (new : ℕ) → r ≡ false → new ≡ cell → x ≡ new + cellFrom (drop (i + 1) places) byte (i + 1)
-    unfolding cellFrom
-    cell-off new q g =
-        let k : i < length places = omega arith in
-        inv ∙ rw (drop-cons places i (place Unnamed), ← e, q, g, add-one i) (omega arith)
-
-  pub cell-over : 8 ≤ i → i ≤ 8 → cell < 2 ^ i → cell % 256 ≡ x
+  pub sum-on : (new : ℕ) → i < 8 → new ≡ pick (isRaised unnamedRaised (getD places i (place Unnamed) .state) byte) (cell + 2 ^ i) cell → Summed x places byte new (i + 1)
   unfolding cellFrom
-  cell-over h k small =
-      let z : i ≡ 8 = omega arith in
-      let s : cell < 256 = rw z at small in
+  sum-on new h e =
+      let raised : Bool = isRaised unnamedRaised (getD places i (place Unnamed) .state) byte in
+      let k : i < length places = omega arith in
+      let more : x ≡ cell + (pick raised (2 ^ i) 0 + cellFrom (drop (i + 1) places) byte (i + 1)) = here .left ∙ rw (drop-cons places i (place Unnamed), add-one i) in
+      let double : 2 ^ (i + 1) ≡ 2 ^ i + 2 ^ i = rw (add-one i, two-pow-succ i) (omega arith) in
+      rw e
+      (by-test (λ (n : ℕ). Summed x places byte n (i + 1)) raised
+      (λ q. record { within = omega arith; small = omega arith; left = omega (arith, rw q at more) })
+      (λ q. record { within = omega arith; small = omega arith; left = omega (arith, rw q at more) }))
+
+  pub sum-over : 8 ≤ i → cell % 256 ≡ x
+  unfolding cellFrom
+  sum-over h =
+      let eight : i ≡ 8 = omega arith in
+      let s : cell < 256 = rw eight at (here .small) in
       let o : length places ≤ i = omega arith in
-      sym (inv ∙ rw (drop-of-length-le places o, add-zero cell, mod-eq-of-lt s))
+      sym (here .left ∙ rw (drop-of-length-le places o, add-zero cell, mod-eq-of-lt s))
+
+-- the weight that was added
+pub plus : (new cell w v : ℕ) → new ≡ cell + w → w ≡ v → new ≡ cell + v
+plus new cell w v e q = rw (← q) e

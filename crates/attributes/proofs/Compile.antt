@@ -1,30 +1,25 @@
 -- One line more, and the lines of a text one after another.
-use Prim.Native.Nat.{ℕ, _+_, _-_, _*_, _≤_, _<_}
-use mathlib.Core.Path.{_≡_, sym, _∙_}
-use mathlib.Core.Bool.{Bool, true, false}
+use Prim.Native.Nat.{ℕ, _-_, _*_, _≤_, _<_}
+use mathlib.Core.Path.{_≡_, refl}
 use mathlib.Core.List.{List}
 use native.Mathlib.Omega.{arith}
-use lib.ListN.{length, take, drop, getD, set}
+use lib.ListN.{length, take}
 use borrow.Author.Tests.{lt-ltb, le-ltb}
 use Rattle.basics.specs.declared.Refusal.{Refusal}
-use Rattle.basics.specs.declared.Refusal.the-variants.{TextTooLong, AlreadyDefined}
-use Rattle.lines.specs.Lines.{linesOf, withoutCR, LineEnd}
-use Rattle.lines.specs.Texts.{Step, next, stop, Outcome, accepted, rejected, runLines, runText}
-use Rattle.lines.proofs.Texts.{lines-over, line-next, run-nil, run-next, run-stop}
-use Rattle.attributes.specs.Cells.{place, allUnnamed}
-use Rattle.attributes.specs.Compile.{filled, isNamed, readLine, DotWithin, withDot, step, steppedTo, compiled, outcomeReply, attributesReply, outcomePlaces}
+use Rattle.basics.specs.declared.Refusal.the-variants.{TextTooLong}
+use Rattle.lines.specs.Lines.{withoutCR}
+use Rattle.lines.specs.Texts.{textLimit, Step, rejected, runText, compiledReply}
+use Rattle.lines.specs.declared.Compiled.{Compiled}
+use Rattle.lines.specs.declared.Compiled.the-variants.{Accepted, Refused}
+use Rattle.lines.proofs.Texts.{Reached, lines-read}
+use Rattle.attributes.specs.Cells.{allUnnamed}
+use Rattle.attributes.specs.Compile.{dotStates, readDotLine, withDot, dotStep, compiledAttributes, attributesReply, outcomePlaces}
+use Rattle.attributes.specs.Internal.{DotWithin}
 use Rattle.attributes.specs.declared.State.{State}
-use Rattle.attributes.specs.declared.State.the-variants.{Unnamed}
 use Rattle.attributes.specs.declared.Place.{Place}
-use Rattle.attributes.specs.declared.Filled.{Filled}
-use Rattle.attributes.specs.declared.Stopped.the-variants.{No, By}
-use Rattle.attributes.specs.declared.Stepped.{Stepped}
+use Rattle.attributes.specs.declared.DotStates.{DotStates}
 use Rattle.attributes.specs.declared.DotLine.{DotLine}
-use Rattle.attributes.specs.declared.DotLine.the-variants.{Fault, Nothing, Dot}
-use Rattle.attributes.specs.declared.AttributesAnswer.{AttributesAnswer}
-use Rattle.attributes.specs.declared.AttributesAnswer.the-variants.{Accepted, Refused}
-
--- ---- one line
+use Rattle.attributes.specs.declared.DotLine.the-variants.{Dot}
 
 module _ (read : DotLine) (dot left : ℕ) (state : State) (within : DotWithin read) (q : read ≡ Dot dot state left) where
   pub dot-within : dot < 8
@@ -34,53 +29,29 @@ module _ (read : DotLine) (dot left : ℕ) (state : State) (within : DotWithin r
   pub dot-fits : dot * 2 < 0x10000000000000000
   dot-fits = omega (arith, dot-within)
 
-module _ (f : Filled) (read : DotLine) where
-  pub with-fault : (refusal : Refusal) (left : ℕ) → read ≡ Fault refusal left → stop refusal ≡ withDot f read
-  with-fault refusal left q = rw q
+-- the case k of what was read
+pub on-read : (f : DotStates) {read k : DotLine} {x : Step DotStates} → read ≡ k → x ≡ withDot f k → x ≡ withDot f read
+on-read f q h = rw q h
 
-  pub with-nothing : read ≡ Nothing → next f ≡ withDot f read
-  with-nothing q = rw q
-
-  module _ (dot left : ℕ) (state : State) (old : Bool) (q : read ≡ Dot dot state left) (e : old ≡ isNamed (getD (f .places) dot (place Unnamed) .state)) where
-    pub with-second : old ≡ true → stop AlreadyDefined ≡ withDot f read
-    with-second t = rw (q, ← e, t)
-
-    pub with-first : old ≡ false → next (filled (set (f .places) dot (place state)) (f .lines + 1)) ≡ withDot f read
-    with-first t = rw (q, ← e, t)
-
-pub step-read : (f : Filled) (line : List ℕ) (n : ℕ) (read : DotLine) (x : Step Filled) → take n line ≡ withoutCR line → read ≡ readLine (take n line) → x ≡ withDot f read → x ≡ step f (withoutCR line)
-unfolding step
+pub step-read : (f : DotStates) (line : List ℕ) (n : ℕ) (read : DotLine) (x : Step DotStates) → take n line ≡ withoutCR line → read ≡ readDotLine (take n line) → x ≡ withDot f read → x ≡ dotStep f (withoutCR line)
+unfolding dotStep
 step-read f line n read x c e h = rw (← c, ← e) h
 
--- ---- the lines of a text
+pub come-first : (text : List ℕ) → length text ≤ textLimit → Reached dotStep text (compiledAttributes text) 0 1 (dotStates allUnnamed 0)
+unfolding compiledAttributes runText
+come-first text short = record { within = omega arith; count = omega arith; left = rw (le-ltb _ _ short) }
 
-pub compiled-long : (text : List ℕ) → 65536 < length text → compiled text ≡ rejected TextTooLong 0
-unfolding compiled runText
-compiled-long text h = rw (lt-ltb _ _ h)
+-- what the call is to ensure: its answer, and the places
+abbrev Ensured : List ℕ → Compiled → List Place → Type 0
+Ensured text answer places = (compiledReply answer ≡ attributesReply (compiledAttributes text)) × (places ≡ outcomePlaces (compiledAttributes text))
 
-pub compiled-start : (text : List ℕ) → length text ≤ 65536 → compiled text ≡ runLines step (linesOf (drop 0 text)) 1 (filled allUnnamed 0)
-unfolding compiled runText
-compiled-start text h = rw (le-ltb _ _ h)
+pub accepted-places : (text : List ℕ) (at n : ℕ) (f : DotStates) → Reached dotStep text (compiledAttributes text) at n f → length text ≤ at → Ensured text (Accepted (f .lines)) (f .places)
+accepted-places text at n f here h = rw (lines-read dotStep text (compiledAttributes text) at n f here h) (refl, refl)
 
--- f is the state before the line that begins at `at`
-module _ (text : List ℕ) (at line : ℕ) (f : Filled) (inv : compiled text ≡ runLines step (linesOf (drop at text)) line f) where
-  module _ (e : ℕ) (r : Stepped) (h : at < length text) (ends : LineEnd text at e) (s : steppedTo r ≡ step f (withoutCR (take (e - at) (drop at text)))) where
-    pub compiled-stop : (refusal : Refusal) → r .stopped ≡ By refusal → compiled text ≡ rejected refusal line
-    compiled-stop refusal q = inv ∙ rw (line-next text at e ends h) (run-stop step _ _ line f (sym (rw q at s)))
+pub refused-places : (text : List ℕ) {refusal : Refusal} {n : ℕ} {answer : Compiled} {places : List Place}
+    → compiledAttributes text ≡ rejected refusal n → answer ≡ Refused refusal n → places ≡ allUnnamed → Ensured text answer places
+refused-places text q e p = (rw (q, e), rw (q, p))
 
-    pub compiled-next : r .stopped ≡ No → compiled text ≡ runLines step (linesOf (drop (e + 1) text)) (line + 1) (r .filled)
-    compiled-next q = inv ∙ rw (line-next text at e ends h) (run-next step _ _ line f (sym (rw q at s)))
-
-  pub compiled-over : length text ≤ at → compiled text ≡ accepted f
-  compiled-over h = inv ∙ rw (lines-over text at h) (run-nil step line f)
-
--- the answer and the places of an outcome
-abbrev Replied : Outcome Filled → AttributesAnswer → List Place → Type 0
-Replied x answer places = (attributesReply answer ≡ outcomeReply x) × (places ≡ outcomePlaces x)
-
-pub reply-accepted : {x : Outcome Filled} {f : Filled} → x ≡ accepted f → Replied x (Accepted (f .lines)) (f .places)
-reply-accepted q = (rw q, rw q)
-
-pub reply-rejected : {x : Outcome Filled} {refusal : Refusal} {line : ℕ} {answer : AttributesAnswer} {places : List Place}
-    → x ≡ rejected refusal line → answer ≡ Refused refusal line → places ≡ allUnnamed → Replied x answer places
-reply-rejected q e p = (rw (q, e), rw (q, p))
+pub long-text : (text : List ℕ) → textLimit < length text → compiledAttributes text ≡ rejected TextTooLong 0
+unfolding compiledAttributes runText
+long-text text h = rw (lt-ltb _ _ h)

@@ -1,3 +1,4 @@
 pub mod Cells
 pub mod Reader
 pub mod Compile
+pub mod Internal

@@ -1,27 +1,25 @@
 -- Reading a line of an attributes table: `dot`, a dot number, a state. Faults 5, 6, 8, 9 and 16 as met from left to right.
-use Prim.Native.Nat.{ℕ, _+_, _-_}
-use mathlib.Core.Bool.{Bool, true, false, not, _&&_}
-use mathlib.Core.List.{List, [], _∷_}
+use Prim.Native.Nat.{ℕ, _-_}
+use mathlib.Core.Bool.{Bool, _&&_}
+use mathlib.Core.List.{List}
 use lib.ListN.{length, getD, drop}
 use lib.Dec.{eqb, leb}
 use Rattle.basics.specs.Ascii.{ascii}
 use Rattle.basics.specs.Choice.{pick}
-use Rattle.basics.specs.declared.Refusal.{Refusal}
 use Rattle.basics.specs.declared.Refusal.the-variants.{UnknownDirective, MissingOperand, BadDots, TrailingText, BadState}
 use Rattle.lines.specs.declared.Word.{Word}
 use Rattle.lines.specs.Words.{wordAt, bytesOf, isMissing, sameBytes, isOver}
 use Rattle.attributes.specs.declared.Attribute.{Attribute}
 use Rattle.attributes.specs.declared.Attribute.the-variants as A
-use Rattle.attributes.specs.declared.State.{State}
 use Rattle.attributes.specs.declared.State.the-variants.{On, Off}
 use Rattle.attributes.specs.declared.StateOperand.{StateOperand}
-use Rattle.attributes.specs.declared.StateOperand.the-variants.{Bad, Is}
+use Rattle.attributes.specs.declared.StateOperand.the-variants.{Bad, Read}
 use Rattle.attributes.specs.declared.DotLine.{DotLine}
-use Rattle.attributes.specs.declared.DotLine.the-variants.{Fault, Nothing, Dot}
+use Rattle.attributes.specs.declared.DotLine.the-variants.{Fault, Dot}
 
 -- the state that a sign says of a name: `=` on, `~` off
 abbrev pub signed : ℕ → Attribute → StateOperand
-signed sign name = pick (eqb sign 61) (Is (On name)) (pick (eqb sign 126) (Is (Off name)) Bad)
+signed sign name = pick (eqb sign 61) (Read (On name)) (pick (eqb sign 126) (Read (Off name)) Bad)
 
 -- the eight names, which match exactly, behind a sign: those of the background and `blink`, and all
 unfoldable pub backgroundState : ℕ → List ℕ → StateOperand
@@ -54,7 +52,7 @@ ifThere w more = pick (isMissing w) (Fault MissingOperand 0) more
 
 abbrev pub stateLine : List ℕ → ℕ → Word → StateOperand → ℕ → DotLine
 stateLine line dot w Bad left = Fault BadState (length line - w .start)
-stateLine line dot w (Is state) left =
+stateLine line dot w (Read state) left =
     pick (isOver line (w .end)) (Dot dot state left) (Fault TrailingText (length line - wordAt line (w .end) .start))
 
 -- behind the dot number

@@ -1,13 +1,19 @@
 // Attributes tables: from a VGA attribute byte to its cell.
 use basics::Refusal;
+use lines::Compiled;
 use lines::Opening;
+use lines::Stopped;
+use lines::TEXT_LIMIT;
 ghost use mathlib.Core.Path.{_≡_};
 ghost use Prim.Native.Nat.{_+_, _≤_, _<_, _^_};
 ghost use lib.ListN.{length};
 ghost use Rattle.attributes.specs.Cells.{bitOf, isOn, isRaised, attributeCell, place, allUnnamed};
 ghost use Rattle.attributes.specs.Reader.{signed, backgroundState, namedState, stateOf, isDotNumber, stateAt, dotAt, dotLine};
-ghost use Rattle.attributes.specs.Compile.{isNamed, readLine, withDot, step, steppedTo, compiled, outcomeReply, attributesReply, outcomePlaces, DotWithin};
+ghost use Rattle.attributes.specs.Compile.{isNamed, readDotLine, withDot, dotStep, compiledAttributes, attributesReply, outcomePlaces};
+ghost use Rattle.attributes.specs.Internal.{DotWithin};
 ghost use Rattle.lines.specs.Lines.{withoutCR};
+ghost use Rattle.lines.specs.Texts.{textLimit, compiledReply};
+ghost use Rattle.lines.specs.Internal.{leaves};
 
 // The eight attribute bits.
 pub enum Attribute {
@@ -33,48 +39,36 @@ pub struct Place {
     pub state: State,
 }
 
-// What the attributes compile call answers: how many `dot` lines, or a refusal with its line.
-pub enum AttributesAnswer {
-    Accepted(usize),
-    Refused(Refusal, usize),
-}
-
-// The answer, and the table: the place of dot d is the (d-1)-th.
+// What the attributes compile call answers, with the count of `dot` lines, and the table: the place of dot d is the (d-1)-th.
 pub struct Attributes {
-    pub answer: AttributesAnswer,
+    pub answer: Compiled,
     pub places: [Place; 8],
 }
 
 // A state operand as read.
 pub enum StateOperand {
     Bad,
-    Is(State),
+    Read(State),
 }
 
 // A line as read: at fault, skipped, or a dot (0 to 7) with its state. A place is the number of bytes from the fault, or
 // from the directive word, to the line's end.
 pub enum DotLine {
     Fault(Refusal, usize),
-    Nothing,
+    Skip,
     Dot(usize, State, usize),
 }
 
-// The places so far, and how many `dot` lines filled them.
-pub struct Filled {
+// The places so far, and how many `dot` lines named them.
+pub struct DotStates {
     pub places: [Place; 8],
     pub lines: usize,
 }
 
-// Whether a line was refused.
-pub enum Stopped {
-    No,
-    By(Refusal),
-}
-
-// What a line leaves: the state as it was, where the line was refused.
+// What a line leaves: whether it was refused, and the places then.
 pub struct Stepped {
     pub stopped: Stopped,
-    pub filled: Filled,
+    pub states: DotStates,
 }
 
 // The bit of an attribute.
@@ -116,16 +110,7 @@ fn weight(i: usize) -> u16
     requires { ⌜ i < 8 ⌝ }
     ensures { λ r. ⌜ r ≡ 2 ^ i ⌝ }
 {
-    match i {
-        0 => 1,
-        1 => 2,
-        2 => 4,
-        3 => 8,
-        4 => 16,
-        5 => 32,
-        6 => 64,
-        _ => 128,
-    }
+    1 << i
 }
 
 // The cell of an attribute byte.
@@ -150,10 +135,10 @@ fn signed_state(sign: u8, name: Attribute) -> StateOperand
     ensures { λ r. ⌜ r ≡ signed sign name ⌝ }
 {
     if sign == b'=' {
-        return StateOperand::Is(State::On(name));
+        return StateOperand::Read(State::On(name));
     }
     if sign == b'~' {
-        return StateOperand::Is(State::Off(name));
+        return StateOperand::Read(State::Off(name));
     }
     StateOperand::Bad
 }
@@ -232,7 +217,7 @@ fn state_at(line: &[u8], dot: usize, at: usize, left: usize) -> DotLine
     }
     match state_of(&line[start..end]) {
         StateOperand::Bad => DotLine::Fault(Refusal::BadState, line.len() - start),
-        StateOperand::Is(state) => {
+        StateOperand::Read(state) => {
             if lines::is_over(line, end) {
                 return DotLine::Dot(dot, state, left);
             }
@@ -276,13 +261,13 @@ fn dot_line(line: &[u8]) -> DotLine
 }
 
 // A whole line, without its end.
-fn read_line(line: &[u8]) -> DotLine
-    ensures { λ r. ⌜ r ≡ readLine (now (line .entry)) ⌝ }
+fn read_dot_line(line: &[u8]) -> DotLine
+    ensures { λ r. ⌜ r ≡ readDotLine (now (line .entry)) ⌝ }
     ensures { λ r. ⌜ DotWithin r ⌝ }
 {
     match lines::open_line(line) {
         Opening::Fault(refusal, left) => DotLine::Fault(refusal, left),
-        Opening::Skip => DotLine::Nothing,
+        Opening::Skip => DotLine::Skip,
         Opening::Directive => dot_line(line),
     }
 }
@@ -298,19 +283,19 @@ fn is_named(state: State) -> bool
 }
 
 // The state with a dot's line more, unless that dot has one.
-fn with_dot(f: Filled, read: DotLine) -> Stepped
-    requires { ⌜ (DotWithin read) × (f .lines < 65536) ⌝ }
-    ensures { λ r. ⌜ steppedTo r ≡ withDot f read ⌝ }
-    ensures { λ r. ⌜ r .filled .lines ≤ f .lines + 1 ⌝ }
+fn with_dot(f: DotStates, read: DotLine) -> Stepped
+    requires { ⌜ (DotWithin read) × (f .lines < textLimit) ⌝ }
+    ensures { λ r. ⌜ leaves (r .stopped) (r .states) ≡ withDot f read ⌝ }
+    ensures { λ r. ⌜ r .states .lines ≤ f .lines + 1 ⌝ }
 {
     match read {
         DotLine::Fault(refusal, _) => Stepped {
             stopped: Stopped::By(refusal),
-            filled: f,
+            states: f,
         },
-        DotLine::Nothing => Stepped {
+        DotLine::Skip => Stepped {
             stopped: Stopped::No,
-            filled: f,
+            states: f,
         },
         DotLine::Dot(dot, state, _) => {
             let mut places = f.places;
@@ -319,13 +304,13 @@ fn with_dot(f: Filled, read: DotLine) -> Stepped
             if is_named(before) {
                 return Stepped {
                     stopped: Stopped::By(Refusal::AlreadyDefined),
-                    filled: f,
+                    states: f,
                 };
             }
             places[dot] = Place { state };
             Stepped {
                 stopped: Stopped::No,
-                filled: Filled {
+                states: DotStates {
                     places,
                     lines: f.lines + 1,
                 },
@@ -335,39 +320,37 @@ fn with_dot(f: Filled, read: DotLine) -> Stepped
 }
 
 // The state after one line more, its LF not in it.
-fn step_line(f: Filled, line: &[u8]) -> Stepped
-    requires { ⌜ f .lines < 65536 ⌝ }
-    ensures { λ r. ⌜ steppedTo r ≡ step f (withoutCR (now (line .entry))) ⌝ }
-    ensures { λ r. ⌜ r .filled .lines ≤ f .lines + 1 ⌝ }
+fn dot_step(f: DotStates, line: &[u8]) -> Stepped
+    requires { ⌜ f .lines < textLimit ⌝ }
+    ensures { λ r. ⌜ leaves (r .stopped) (r .states) ≡ dotStep f (withoutCR (now (line .entry))) ⌝ }
+    ensures { λ r. ⌜ r .states .lines ≤ f .lines + 1 ⌝ }
 {
     let n = lines::trimmed(line);
-    with_dot(f, read_line(&line[..n]))
+    with_dot(f, read_dot_line(&line[..n]))
 }
 
 // A refused table: all dots unnamed.
 fn refused_table(refusal: Refusal, line: usize) -> Attributes
-    ensures { λ r. ⌜ (r .answer ≡ AttributesAnswer.Refused refusal line) × (r .places ≡ allUnnamed) ⌝ }
+    ensures { λ r. ⌜ (r .answer ≡ Compiled.Refused refusal line) × (r .places ≡ allUnnamed) ⌝ }
 {
     Attributes {
-        answer: AttributesAnswer::Refused(refusal, line),
+        answer: Compiled::Refused(refusal, line),
         places: [Place {
             state: State::Unnamed,
         }; 8],
     }
 }
 
-// Compiles an attributes text: any bytes.
-pub fn compile_attributes(text: &[u8]) -> Attributes
-    ensures answer { λ r. ⌜ attributesReply (r .answer) ≡ outcomeReply (compiled (now (text .entry))) ⌝ }
-    ensures places { λ r. ⌜ r .places ≡ outcomePlaces (compiled (now (text .entry))) ⌝ }
+// Reads the lines of a text; a refused line leaves all dots unnamed.
+fn read_lines(text: &[u8]) -> Attributes
+    requires { ⌜ length (now text) ≤ textLimit ⌝ }
+    ensures answer { λ r. ⌜ compiledReply (r .answer) ≡ attributesReply (compiledAttributes (now (text .entry))) ⌝ }
+    ensures places { λ r. ⌜ r .places ≡ outcomePlaces (compiledAttributes (now (text .entry))) ⌝ }
 {
-    if 65536 < text.len() {
-        return refused_table(Refusal::TextTooLong, 0);
-    }
     let none = [Place {
         state: State::Unnamed,
     }; 8];
-    let mut filled = Filled {
+    let mut states = DotStates {
         places: none,
         lines: 0,
     };
@@ -375,20 +358,31 @@ pub fn compile_attributes(text: &[u8]) -> Attributes
     let mut at = 0;
     while at < text.len() {
         let end = lines::line_end(text, at);
-        let next = step_line(filled, &text[at..end]);
+        let next = dot_step(states, &text[at..end]);
         let stopped = next.stopped;
         match stopped {
             Stopped::By(refusal) => return refused_table(refusal, line),
             Stopped::No => {
-                filled = next.filled;
+                states = next.states;
             }
         }
         at = end + 1;
         line += 1;
     }
-    let places = filled.places;
+    let places = states.places;
     Attributes {
-        answer: AttributesAnswer::Accepted(filled.lines),
+        answer: Compiled::Accepted(states.lines),
         places,
     }
+}
+
+// Compiles an attributes text: any bytes.
+pub fn compile_attributes(text: &[u8]) -> Attributes
+    ensures answer { λ r. ⌜ compiledReply (r .answer) ≡ attributesReply (compiledAttributes (now (text .entry))) ⌝ }
+    ensures places { λ r. ⌜ r .places ≡ outcomePlaces (compiledAttributes (now (text .entry))) ⌝ }
+{
+    if TEXT_LIMIT < text.len() {
+        return refused_table(Refusal::TextTooLong, 0);
+    }
+    read_lines(text)
 }

@@ -2,6 +2,8 @@
 use Prim.Native.Nat.{ℕ}
 use Rattle.basics.specs.declared.Refusal.{Refusal}
 use Rattle.basics.specs.declared.Refusal.the-variants as R
+use Rattle.basics.specs.declared.Filling.{Filling}
+use Rattle.basics.specs.declared.Filling.the-variants as F
 
 -- the table "Numbers of refusal"
 abbrev pub numberOf : Refusal → ℕ
@@ -26,6 +28,11 @@ numberOf R.BadState = 16
 pub data Reply (A : Type 0) : Type 0 where
   answered : A → Reply A
   refused : ℕ → ℕ → Reply A
+
+-- the number and place of each case of a call that fills; it has no value
+abbrev pub fillingReply : Filling → Reply (Unit {0})
+fillingReply F.Filled = answered tt
+fillingReply (F.Refused refusal place) = refused (numberOf refusal) place
 
 -- a call that goes on with the value of an earlier answer; a refusal stands
 abbrev pub andThen : {A B : Type 0} → Reply A → (A → Reply B) → Reply B

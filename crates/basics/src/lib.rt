@@ -1,4 +1,4 @@
-// What every call shares: the refusals by name and number, and a character that there may be.
+// What every call shares: the refusals by name and number, a character that there may be, the answer of a call that fills.
 ghost use mathlib.Core.Path.{_≡_};
 ghost use Rattle.basics.specs.Refusals.{numberOf};
 
@@ -26,6 +26,19 @@ pub enum Refusal {
 pub enum Maybe {
     Nothing,
     Character(u32),
+}
+
+// What a call that fills what it was lent, or what it hands back, answers: the page call, the typing call.
+pub enum Filling {
+    Filled,
+    Refused(Refusal, usize),
+}
+
+// A byte as a number of 32 bits.
+pub fn widen(b: u8) -> u32
+    ensures { λ r. ⌜ r ≡ b ⌝ }
+{
+    b as u32
 }
 
 // The number of a refusal.

@@ -4,9 +4,9 @@ use libc::STDOUT_FILENO;
 
 fn main() {
     // One byte more than a text may have, so that a longer one is seen to be too long.
-    let mut text = [0u8; 65537];
+    let mut text = [0u8; lines::TEXT_LIMIT + 1];
     let n = io::read_full(STDIN_FILENO, &mut text);
-    let mut words = [0u32; 2048];
+    let mut words = [0u32; table::TABLE_WORDS];
     let line = report::report(compiler::compile(&text[..n], &mut words));
     let bytes = line.bytes;
     let length = line.length;

@@ -1,6 +1,3 @@
-pub mod Conditions
-pub mod Reader
-pub mod InRange
+pub mod Effects
 pub mod Texts
-pub mod Words
 pub mod Call

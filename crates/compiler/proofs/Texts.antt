@@ -18,10 +18,10 @@ use Rattle.definitions.specs.declared.Definition.{Definition}
 use Rattle.definitions.proofs.Admission.{Admits}
 use Rattle.table.specs.Words.{tableWords, imageOf}
 use Rattle.table.proofs.Readback.{AllInRange}
-use Rattle.compiler.specs.Compile.{lineEffect, withEffect, step, compiled, andAfter, effects, outcomeReply, compileReply, compileWords}
-use Rattle.compiler.specs.declared.Reading.{Reading}
-use Rattle.compiler.specs.declared.Reading.the-variants.{Fault, Nothing, Define}
-use Rattle.compiler.proofs.InRange.{effect-in-range, effect-admitted}
+use Rattle.compiler.specs.Compile.{lineEffect, withEffect, step, compiled, andAfter, effects, compiledCount, compileReply, compileWords}
+use Rattle.reader.specs.declared.Reading.{Reading}
+use Rattle.reader.specs.declared.Reading.the-variants.{Fault, NoEffect, Define}
+use Rattle.compiler.proofs.Effects.{effect-in-range, effect-admitted}
 
 -- after the definitions ds those of rs take effect, and gs are all
 pub record Took (ds gs rs : List Definition) : Type 0 where
@@ -38,7 +38,7 @@ run-took (l ∷ ls) n ds {gs} e = go (λ ds. run-took ls (n + 1) ds) (lineEffect
     go : ((ds : List Definition) → runLines step ls (n + 1) ds ≡ accepted gs → Took ds gs (effects ds ls)) → (r : Reading) → lineEffect ds (withoutCR l) ≡ r
         → onStep (withEffect ds r) n (λ ds. runLines step ls (n + 1) ds) ≡ accepted gs → Took ds gs (andAfter ds r (λ ds. effects ds ls))
     go ih (Fault refusal left) p e = record { after = cc; admits = tt; fit = tt }
-    go ih Nothing p e = ih ds e
+    go ih NoEffect p e = ih ds e
     go ih (Define d left) p e =
         let rest = ih (ds ++ d ∷ []) e in
         record {
@@ -85,11 +85,11 @@ pub text-answered : (text : List ℕ) (words : ℕ) {count : ℕ} → compileRep
 unfolding compileReply
 text-answered text words {count} e = go (ltb words tableWords) refl e
   where
-    on-outcome : (o : Outcome (List Definition)) → compiled text ≡ o → tableWords ≤ words → outcomeReply o ≡ answered count → AnsweredText text words count
+    on-outcome : (o : Outcome (List Definition)) → compiled text ≡ o → tableWords ≤ words → compiledCount o ≡ answered count → AnsweredText text words count
     on-outcome (accepted ds) p h e = record { enough = h; short = text-accepted text p .short; definitions = ds; compiles = p; counts = cc }
     on-outcome (rejected refusal line) p h e = absurd (let z : _≡_ {A = ℕ} 0 1 = cc in omega arith)
 
-    go : (b : Bool) → ltb words tableWords ≡ b → pick b (refused 2 0) (outcomeReply (compiled text)) ≡ answered count → AnsweredText text words count
+    go : (b : Bool) → ltb words tableWords ≡ b → pick b (refused 2 0) (compiledCount (compiled text)) ≡ answered count → AnsweredText text words count
     go true p e = absurd (let z : _≡_ {A = ℕ} 0 1 = cc in omega arith)
     go false p e = on-outcome (compiled text) refl (ltb-false words tableWords p) e
 

@@ -1,4 +1,2 @@
-pub mod Conditions
-pub mod Reader
 pub mod Compile
-pub mod Progress
+pub mod Internal

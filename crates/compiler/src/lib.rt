@@ -1,329 +1,35 @@
-// Compiling a text table: reading a line, its effect, the compile call. Words and a count stand for the definitions so far.
+// Compiling a text table: what a line does, and the compile call. Words and a count stand for the definitions so far.
 use basics::Refusal;
-use definitions::Cell;
-use definitions::Definition;
-use definitions::Meaning;
 use definitions::Verdict;
-use lines::Opening;
-use operands::DotsOperand;
-use operands::Operand;
+use lines::Compiled;
+use lines::Stopped;
+use lines::TEXT_LIMIT;
+use reader::Reading;
+use table::TABLE_WORDS;
 ghost use mathlib.Core.Path.{_≡_};
-ghost use mathlib.Core.Bool.{Bool·beq};
-ghost use Prim.Native.Nat.{_+_, _-_, _*_, _≤_, _<_};
+ghost use Prim.Native.Nat.{_*_, _≤_};
 ghost use lib.ListN.{length};
-ghost use Rattle.basics.specs.Choice.{pick};
 ghost use Rattle.lines.specs.Lines.{withoutCR};
+ghost use Rattle.lines.specs.Texts.{textLimit, compiledReply};
 ghost use Rattle.table.specs.Words.{definitions};
-ghost use Rattle.compiler.specs.Conditions.{hasGlyph, hasCell};
-ghost use Rattle.compiler.specs.Reader.{conditionOf, directiveOf, finished, dotsLine, aliasLine, glyphCondition, cellCondition, afterDirective, frontOf, ifHolds, readFrom};
-ghost use Rattle.compiler.specs.Compile.{readLine, lineEffect, compileReply, compiledReply, compileWords};
-ghost use Rattle.compiler.specs.Progress.{FrontWithin, Written, Stepped};
+ghost use Rattle.table.specs.Internal.{Written};
+ghost use Rattle.compiler.specs.Compile.{effectOf, lineEffect, compileReply, compileWords};
+ghost use Rattle.compiler.specs.Internal.{Leaves, LinesRead};
 
-// What a directive word asks for: a definition by dots, of a byte or a character, typed or shown only; an alias; or a
-// condition, which holds where its test comes out as wanted.
-pub enum Directive {
-    Unknown,
-    Define { byte: bool, typed: bool },
-    Alias,
-    IfGlyph { wanted: bool },
-    IfCell { wanted: bool },
+// What a line leaves: whether it was refused, and how many definitions there are then.
+pub struct Stepped {
+    pub stopped: Stopped,
+    pub count: usize,
 }
 
-// A line as read: at fault, without effect, or a definition that is to take effect. A place is the number of bytes from
-// the fault, or from the definition's directive word, to the line's end.
-pub enum Reading {
-    Fault(Refusal, usize),
-    Nothing,
-    Define(Definition, usize),
-}
-
-// A directive at the front of what is left of a line: read whole, or a condition, whether it holds and where the further
-// directive may begin.
-pub enum Front {
-    Whole(Reading),
-    Condition { holds: bool, rest: usize },
-}
-
-// What the compile call answers: how many definitions, or a refusal with its line.
-pub enum Compiled {
-    Accepted(usize),
-    Refused(Refusal, usize),
-}
-
-// What a line leaves: so many definitions, or its refusal.
-pub enum Progress {
-    Next(usize),
-    Stop(Refusal),
-}
-
-// Whether `ifGlyph` holds: the end of the alias walk has a cell exactly where rule 3 or 4 answers.
-fn has_glyph(words: &[u32], count: usize, c: u32) -> bool
+// What a line as read does: 11 to 13 refuse a definition that would take effect.
+fn effect_of(words: &[u32], count: usize, reading: Reading) -> Reading
     requires { ⌜ 2 * count ≤ length (now words) ⌝ }
-    ensures { λ r. ⌜ r ≡ hasGlyph (definitions count (now (words .entry))) c ⌝ }
+    ensures { λ r. ⌜ r ≡ effectOf (definitions count (now (words .entry))) reading ⌝ }
 {
-    if unicode::is_braille(c) {
-        return false;
-    }
-    let w = table::walk_from(words, count, unicode::local_of(c));
-    let end = w.cell;
-    match end {
-        Cell::Absent => false,
-        Cell::Dots(_) => true,
-    }
-}
-
-// Whether `ifCell` holds.
-fn has_cell(words: &[u32], count: usize, cell: u8) -> bool
-    requires { ⌜ 2 * count ≤ length (now words) ⌝ }
-    ensures { λ r. ⌜ r ≡ hasCell (definitions count (now (words .entry))) cell ⌝ }
-{
-    let mut i = 0;
-    while i < count {
-        if definitions::types_cell(table::meaning_of(words[2 * i + 1]), cell) {
-            return true;
-        }
-        i += 1;
-    }
-    false
-}
-
-// The directive that a word of a condition asks for.
-fn condition_of(w: &[u8]) -> Directive
-    ensures { λ r. ⌜ r ≡ conditionOf (now (w .entry)) ⌝ }
-{
-    if lines::same_bytes(w, b"ifGlyph") {
-        return Directive::IfGlyph { wanted: true };
-    }
-    if lines::same_bytes(w, b"ifNotGlyph") {
-        return Directive::IfGlyph { wanted: false };
-    }
-    if lines::same_bytes(w, b"ifCell") {
-        return Directive::IfCell { wanted: true };
-    }
-    if lines::same_bytes(w, b"ifNotCell") {
-        return Directive::IfCell { wanted: false };
-    }
-    Directive::Unknown
-}
-
-// The directive that a word asks for.
-fn directive_of(w: &[u8]) -> Directive
-    ensures { λ r. ⌜ r ≡ directiveOf (now (w .entry)) ⌝ }
-{
-    if lines::same_bytes(w, b"char") {
-        return Directive::Define {
-            byte: false,
-            typed: true,
-        };
-    }
-    if lines::same_bytes(w, b"glyph") {
-        return Directive::Define {
-            byte: false,
-            typed: false,
-        };
-    }
-    if lines::same_bytes(w, b"byte") {
-        return Directive::Define {
-            byte: true,
-            typed: false,
-        };
-    }
-    if lines::same_bytes(w, b"alias") {
-        return Directive::Alias;
-    }
-    condition_of(w)
-}
-
-// `reading`, or the fault of text behind the last operand.
-fn finish(line: &[u8], at: usize, reading: Reading) -> Reading
-    requires { ⌜ at ≤ length (now line) ⌝ }
-    ensures { λ r. ⌜ r ≡ finished (now (line .entry)) at reading ⌝ }
-{
-    if lines::is_over(line, at) {
-        return reading;
-    }
-    let w = lines::next_word(line, at);
-    Reading::Fault(Refusal::TrailingText, line.len() - w.start)
-}
-
-fn dots_meaning(typed: bool, dots: u8) -> Meaning
-    ensures { λ r. ⌜ r ≡ pick typed (Meaning.Typed dots) (Meaning.Shown dots) ⌝ }
-{
-    if typed {
-        return Meaning::Typed(dots);
-    }
-    Meaning::Shown(dots)
-}
-
-// `char`, `glyph` and `byte` from behind the directive word on.
-fn dots_line(line: &[u8], at: usize, byte: bool, typed: bool, left: usize) -> Reading
-    requires { ⌜ at ≤ length (now line) ⌝ }
-    ensures { λ r. ⌜ r ≡ dotsLine byte typed (now (line .entry)) at left ⌝ }
-{
-    match operands::character_at(line, at, byte) {
-        Operand::Fault(refusal, place) => Reading::Fault(refusal, place),
-        Operand::Value(c, after) => match operands::dots_operand_at(line, after, true) {
-            DotsOperand::Fault(refusal, place) => Reading::Fault(refusal, place),
-            DotsOperand::Cell(dots, end) => {
-                let meaning = dots_meaning(typed, dots);
-                let d = Definition {
-                    character: c,
-                    meaning,
-                };
-                finish(line, end, Reading::Define(d, left))
-            }
-        },
-    }
-}
-
-// `alias` from behind the directive word on.
-fn alias_line(line: &[u8], at: usize, left: usize) -> Reading
-    requires { ⌜ at ≤ length (now line) ⌝ }
-    ensures { λ r. ⌜ r ≡ aliasLine (now (line .entry)) at left ⌝ }
-{
-    match operands::character_at(line, at, false) {
-        Operand::Fault(refusal, place) => Reading::Fault(refusal, place),
-        Operand::Value(c, after) => match operands::character_at(line, after, false) {
-            Operand::Fault(refusal, place) => Reading::Fault(refusal, place),
-            Operand::Value(target, end) => {
-                let d = Definition {
-                    character: c,
-                    meaning: Meaning::Alias(target),
-                };
-                finish(line, end, Reading::Define(d, left))
-            }
-        },
-    }
-}
-
-// `ifGlyph` and `ifNotGlyph` from behind the directive word on.
-fn glyph_condition(words: &[u32], count: usize, line: &[u8], at: usize, wanted: bool) -> Front
-    requires { ⌜ (2 * count ≤ length (now words)) × (at ≤ length (now line)) ⌝ }
-    ensures { λ r. ⌜ r ≡ glyphCondition (definitions count (now (words .entry))) wanted (now (line .entry)) at ⌝ }
-    ensures { λ r. ⌜ FrontWithin r 1 (length (now (line .entry))) ⌝ }
-{
-    match operands::character_at(line, at, false) {
-        Operand::Fault(refusal, place) => Front::Whole(Reading::Fault(refusal, place)),
-        Operand::Value(c, after) => {
-            let holds = has_glyph(words, count, c) == wanted;
-            Front::Condition { holds, rest: after }
-        }
-    }
-}
-
-// `ifCell` and `ifNotCell` from behind the directive word on.
-fn cell_condition(words: &[u32], count: usize, line: &[u8], at: usize, wanted: bool) -> Front
-    requires { ⌜ (2 * count ≤ length (now words)) × (at ≤ length (now line)) ⌝ }
-    ensures { λ r. ⌜ r ≡ cellCondition (definitions count (now (words .entry))) wanted (now (line .entry)) at ⌝ }
-    ensures { λ r. ⌜ FrontWithin r 1 (length (now (line .entry))) ⌝ }
-{
-    match operands::dots_operand_at(line, at, false) {
-        DotsOperand::Fault(refusal, place) => Front::Whole(Reading::Fault(refusal, place)),
-        DotsOperand::Cell(cell, after) => {
-            let holds = has_cell(words, count, cell) == wanted;
-            Front::Condition { holds, rest: after }
-        }
-    }
-}
-
-// What stands behind a directive word, with room for so many conditions; the word begins `left` bytes before the line's end.
-fn after_directive(
-    words: &[u32],
-    count: usize,
-    line: &[u8],
-    room: usize,
-    directive: Directive,
-    at: usize,
-    left: usize,
-) -> Front
-    requires { ⌜ (2 * count ≤ length (now words)) × (at ≤ length (now line)) ⌝ }
-    ensures { λ r. ⌜ r ≡ afterDirective (definitions count (now (words .entry))) room (now (line .entry)) directive at left ⌝ }
-    ensures { λ r. ⌜ FrontWithin r room (length (now (line .entry))) ⌝ }
-{
-    match directive {
-        Directive::Unknown => Front::Whole(Reading::Fault(Refusal::UnknownDirective, left)),
-        Directive::Define { byte, typed } => Front::Whole(dots_line(line, at, byte, typed, left)),
-        Directive::Alias => Front::Whole(alias_line(line, at, left)),
-        Directive::IfGlyph { wanted } => {
-            if room == 0 {
-                return Front::Whole(Reading::Fault(Refusal::TooManyConditions, left));
-            }
-            glyph_condition(words, count, line, at, wanted)
-        }
-        Directive::IfCell { wanted } => {
-            if room == 0 {
-                return Front::Whole(Reading::Fault(Refusal::TooManyConditions, left));
-            }
-            cell_condition(words, count, line, at, wanted)
-        }
-    }
-}
-
-// The directive at the front of what is left of a line.
-fn front_of(words: &[u32], count: usize, line: &[u8], room: usize) -> Front
-    requires { ⌜ 2 * count ≤ length (now words) ⌝ }
-    ensures { λ r. ⌜ r ≡ frontOf (definitions count (now (words .entry))) room (now (line .entry)) ⌝ }
-    ensures { λ r. ⌜ FrontWithin r room (length (now (line .entry))) ⌝ }
-{
-    if lines::is_over(line, 0) {
-        return Front::Whole(Reading::Fault(Refusal::MissingOperand, 0));
-    }
-    let w = lines::next_word(line, 0);
-    let start = w.start;
-    let end = w.end;
-    let directive = directive_of(&line[start..end]);
-    after_directive(words, count, line, room, directive, end, line.len() - start)
-}
-
-// Behind a failed condition only a fault counts.
-fn if_holds(holds: bool, reading: Reading) -> Reading
-    ensures { λ r. ⌜ r ≡ ifHolds holds reading ⌝ }
-{
-    if holds {
-        return reading;
-    }
     match reading {
-        Reading::Fault(refusal, place) => Reading::Fault(refusal, place),
-        Reading::Nothing => Reading::Nothing,
-        Reading::Define(_, _) => Reading::Nothing,
-    }
-}
-
-// A directive, with room for so many conditions: it calls itself on the rest of the line.
-fn read_from(words: &[u32], count: usize, line: &[u8], room: usize) -> Reading
-    requires { ⌜ 2 * count ≤ length (now words) ⌝ }
-    ensures { λ r. ⌜ r ≡ readFrom (definitions count (now (words .entry))) room (now (line .entry)) ⌝ }
-{
-    match front_of(words, count, line, room) {
-        Front::Whole(reading) => reading,
-        Front::Condition { holds, rest } => if_holds(
-            holds,
-            read_from(words, count, &line[rest..], room - 1),
-        ),
-    }
-}
-
-// A whole line, without its end.
-fn read_line(words: &[u32], count: usize, line: &[u8]) -> Reading
-    requires { ⌜ 2 * count ≤ length (now words) ⌝ }
-    ensures { λ r. ⌜ r ≡ readLine (definitions count (now (words .entry))) (now (line .entry)) ⌝ }
-{
-    match lines::open_line(line) {
-        Opening::Fault(refusal, left) => Reading::Fault(refusal, left),
-        Opening::Skip => Reading::Nothing,
-        Opening::Directive => read_from(words, count, line, 8),
-    }
-}
-
-// What a line, its LF not in it, does: its first fault, nothing, or the definition that takes effect.
-fn line_effect(words: &[u32], count: usize, line: &[u8]) -> Reading
-    requires { ⌜ 2 * count ≤ length (now words) ⌝ }
-    ensures { λ r. ⌜ r ≡ lineEffect (definitions count (now (words .entry))) (withoutCR (now (line .entry))) ⌝ }
-{
-    let n = lines::trimmed(line);
-    match read_line(words, count, &line[..n]) {
         Reading::Fault(refusal, left) => Reading::Fault(refusal, left),
-        Reading::Nothing => Reading::Nothing,
+        Reading::NoEffect => Reading::NoEffect,
         Reading::Define(d, left) => match table::judge(words, count, d) {
             Verdict::Admitted => Reading::Define(d, left),
             Verdict::Refused(refusal) => Reading::Fault(refusal, left),
@@ -331,19 +37,72 @@ fn line_effect(words: &[u32], count: usize, line: &[u8]) -> Reading
     }
 }
 
-// The words after one line more, its LF not in it.
-fn step_line(words: &mut [u32], count: usize, line: &[u8]) -> Progress
+// What a line, without its end, does: its first fault, nothing, or the definition that takes effect.
+fn line_effect(words: &[u32], count: usize, line: &[u8]) -> Reading
+    requires { ⌜ 2 * count ≤ length (now words) ⌝ }
+    ensures { λ r. ⌜ r ≡ lineEffect (definitions count (now (words .entry))) (now (line .entry)) ⌝ }
+{
+    effect_of(words, count, reader::read_line(words, count, line))
+}
+
+// The words after one line more, without its end.
+fn take_line(words: &mut [u32], count: usize, line: &[u8]) -> Stepped
     requires { ⌜ Written (now words) count ⌝ }
-    ensures { λ r. ⌜ Stepped (now (words .entry)) count (withoutCR (now (line .entry))) r (now (words .exit)) ⌝ }
+    ensures { λ r. ⌜ Leaves (now (words .entry)) count (now (line .entry)) r (now (words .exit)) ⌝ }
 {
     match line_effect(words, count, line) {
-        Reading::Fault(refusal, _) => Progress::Stop(refusal),
-        Reading::Nothing => Progress::Next(count),
+        Reading::Fault(refusal, _) => Stepped {
+            stopped: Stopped::By(refusal),
+            count,
+        },
+        Reading::NoEffect => Stepped {
+            stopped: Stopped::No,
+            count,
+        },
         Reading::Define(d, _) => {
             table::put(words, count, d);
-            Progress::Next(count + 1)
+            Stepped {
+                stopped: Stopped::No,
+                count: count + 1,
+            }
         }
     }
+}
+
+// The same of a line with its CR, if it has one.
+fn step_line(words: &mut [u32], count: usize, line: &[u8]) -> Stepped
+    requires { ⌜ Written (now words) count ⌝ }
+    ensures { λ r. ⌜ Leaves (now (words .entry)) count (withoutCR (now (line .entry))) r (now (words .exit)) ⌝ }
+{
+    let n = lines::trimmed(line);
+    take_line(words, count, &line[..n])
+}
+
+// Reads the lines of a text into zeroed words; a refused line zeroes them again.
+fn read_lines(words: &mut [u32], text: &[u8]) -> Compiled
+    requires { ⌜ (Written (now words) 0) × (length (now text) ≤ textLimit) ⌝ }
+    ensures { λ r. ⌜ LinesRead (now (text .entry)) (now (words .entry)) r (now (words .exit)) ⌝ }
+{
+    let mut count = 0;
+    let mut line = 1;
+    let mut at = 0;
+    while at < text.len() {
+        let end = lines::line_end(text, at);
+        let next = step_line(words, count, &text[at..end]);
+        let stopped = next.stopped;
+        match stopped {
+            Stopped::By(refusal) => {
+                table::clear(words);
+                return Compiled::Refused(refusal, line);
+            }
+            Stopped::No => {
+                count = next.count;
+            }
+        }
+        at = end + 1;
+        line += 1;
+    }
+    Compiled::Accepted(count)
 }
 
 // Compiles a text table: any bytes, any slice.
@@ -351,32 +110,12 @@ pub fn compile(text: &[u8], words: &mut [u32]) -> Compiled
     ensures answer { λ r. ⌜ compiledReply r ≡ compileReply (now (text .entry)) (length (now (words .entry))) ⌝ }
     ensures words { λ r. ⌜ now (words .exit) ≡ compileWords (now (text .entry)) (now (words .entry)) ⌝ }
 {
-    if words.len() < 2048 {
+    if words.len() < TABLE_WORDS {
         return Compiled::Refused(Refusal::ShortSlice, 0);
     }
-    if 65536 < text.len() {
+    if TEXT_LIMIT < text.len() {
         return Compiled::Refused(Refusal::TextTooLong, 0);
     }
     table::clear(words);
-    let mut count = 0;
-    let mut line = 1;
-    let mut at = 0;
-    while at < text.len() {
-        let end = lines::line_end(text, at);
-        match step_line(words, count, &text[at..end]) {
-            Progress::Stop(refusal) => {
-                table::clear(words);
-                return Compiled::Refused(refusal, line);
-            }
-            Progress::Next(n) => {
-                count = n;
-            }
-        }
-        if end == text.len() {
-            return Compiled::Accepted(count);
-        }
-        at = end + 1;
-        line += 1;
-    }
-    Compiled::Accepted(count)
+    read_lines(words, text)
 }

@@ -8,17 +8,17 @@ use Rattle.basics.specs.Choice.{pick}
 use Rattle.definitions.specs.declared.Meaning.{Meaning}
 use Rattle.definitions.specs.declared.Definition.{Definition}
 use Rattle.definitions.specs.declared.Found.{Found}
-use Rattle.definitions.specs.declared.Found.the-variants.{Nothing, Is}
+use Rattle.definitions.specs.declared.Found.the-variants.{Undefined, Is}
 use Rattle.definitions.specs.Definitions.{find}
 use Rattle.definitions.specs.Effects.{isFound, isDefined}
 
 -- the first that is found
 abbrev pub orElse : Found → Found → Found
-orElse Nothing g = g
+orElse Undefined g = g
 orElse (Is meaning) g = Is meaning
 
-pub orElse-nothing : (f : Found) → orElse f Nothing ≡ f
-orElse-nothing Nothing = refl
+pub orElse-nothing : (f : Found) → orElse f Undefined ≡ f
+orElse-nothing Undefined = refl
 orElse-nothing (Is meaning) = refl
 
 pick-orElse : (b : Bool) (m : Meaning) (f g : Found) → pick b (Is m) (orElse f g) ≡ orElse (pick b (Is m) f) g
@@ -32,18 +32,18 @@ find-append [] ys c = refl
 find-append (d ∷ xs) ys c = rw (find-append xs ys c) (pick-orElse (eqb (d .character) c) (d .meaning) (find xs c) (find ys c))
 
 -- a character without a definition is found nowhere
-pub not-found : (f : Found) → isFound f ≡ false → f ≡ Nothing
-not-found Nothing e = refl
+pub not-found : (f : Found) → isFound f ≡ false → f ≡ Undefined
+not-found Undefined e = refl
 not-found (Is meaning) e = cc
+
+pub not-first : (b : Bool) (m : Meaning) (f : Found) → pick b (Is m) f ≡ Undefined → (b ≡ false) × (f ≡ Undefined)
+not-first true m f e = (cc, cc)
+not-first false m f e = (refl, e)
 
 -- what is found stays found
 pub found-kept : (ds rs : List Definition) (c : ℕ) (m : Meaning) → find ds c ≡ Is m → find (ds ++ rs) c ≡ Is m
 found-kept ds rs c m e = rw (find-append, e)
 
--- where nothing is found among the later ones, the earlier ones say
-pub found-before : (ds rs : List Definition) (c : ℕ) → find rs c ≡ Nothing → find (ds ++ rs) c ≡ find ds c
-found-before ds rs c h = rw (find-append, h) (orElse-nothing (find ds c))
-
 -- the same where no later definition is for the character
 pub found-same : (ds rs : List Definition) (c : ℕ) → isDefined rs c ≡ false → find (ds ++ rs) c ≡ find ds c
-found-same ds rs c h = found-before ds rs c (not-found (find rs c) h)
+found-same ds rs c h = rw (find-append, not-found (find rs c) h) (orElse-nothing (find ds c))

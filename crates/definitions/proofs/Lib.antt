@@ -1,3 +1,4 @@
 pub mod Finds
 pub mod Walks
 pub mod Admission
+pub mod Cells

@@ -1,7 +1,7 @@
 -- Definitions in order of effect: what a character means, its explicit cell, its alias walk, what a cell types.
 use Prim.Native.Nat.{ℕ, zero, suc, _+_, _≤_}
 use mathlib.Core.Path.{_≡_}
-use mathlib.Core.Bool.{Bool, true, false}
+use mathlib.Core.Bool.{Bool, false}
 use mathlib.Core.List.{List, [], _∷_}
 use lib.ListN.{length}
 use lib.Dec.{eqb}
@@ -12,27 +12,27 @@ use Rattle.definitions.specs.declared.Meaning.{Meaning}
 use Rattle.definitions.specs.declared.Meaning.the-variants.{Typed, Shown, Alias}
 use Rattle.definitions.specs.declared.Definition.{Definition}
 use Rattle.definitions.specs.declared.Found.{Found}
-use Rattle.definitions.specs.declared.Found.the-variants.{Nothing, Is}
+use Rattle.definitions.specs.declared.Found.the-variants.{Undefined, Is}
 use Rattle.definitions.specs.declared.Cell.{Cell}
 use Rattle.definitions.specs.declared.Cell.the-variants.{Absent, Dots}
 use Rattle.definitions.specs.declared.Walk.{Walk}
 
 -- what the earliest definition of a character says
 unfoldable pub find : List Definition → ℕ → Found
-find [] c = Nothing
+find [] c = Undefined
 find (d ∷ ds) c =
     let rest : Found = find ds c in
     pick (eqb (d .character) c) (Is (d .meaning)) rest
 
 -- the first two meanings are explicit
 abbrev pub cellOf : Found → Cell
-cellOf Nothing = Absent
+cellOf Undefined = Absent
 cellOf (Is (Typed dots)) = Dots dots
 cellOf (Is (Shown dots)) = Dots dots
 cellOf (Is (Alias target)) = Absent
 
 abbrev pub targetOf : Found → Maybe
-targetOf Nothing = M.Nothing
+targetOf Undefined = M.Nothing
 targetOf (Is (Typed dots)) = M.Nothing
 targetOf (Is (Shown dots)) = M.Nothing
 targetOf (Is (Alias target)) = M.Character target

@@ -5,17 +5,16 @@ use mathlib.Core.List.{List}
 use lib.ListN.{length}
 use lib.Dec.{eqb, leb}
 use Rattle.basics.specs.Choice.{pick, ifCharacter}
-use Rattle.basics.specs.declared.Refusal.{Refusal}
 use Rattle.basics.specs.declared.Refusal.the-variants.{AlreadyDefined, AliasLoop, TableFull}
 use Rattle.definitions.specs.declared.Definition.{Definition}
 use Rattle.definitions.specs.declared.Found.{Found}
-use Rattle.definitions.specs.declared.Found.the-variants.{Nothing, Is}
+use Rattle.definitions.specs.declared.Found.the-variants.{Undefined, Is}
 use Rattle.definitions.specs.declared.Verdict.{Verdict}
 use Rattle.definitions.specs.declared.Verdict.the-variants.{Admitted, Refused}
 use Rattle.definitions.specs.Definitions.{find, targetOf, table, walk}
 
 abbrev pub isFound : Found → Bool
-isFound Nothing = false
+isFound Undefined = false
 isFound (Is meaning) = true
 
 -- one character has at most one definition

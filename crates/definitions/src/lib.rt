@@ -4,6 +4,9 @@ use basics::Refusal;
 ghost use mathlib.Core.Path.{_≡_};
 ghost use Rattle.definitions.specs.Definitions.{cellOf, targetOf, types};
 
+// How many definitions a table may have.
+pub const DEFINITION_LIMIT: usize = 1024;
+
 // What a character means: typed and shown dots, shown dots, or an alias to another character.
 pub enum Meaning {
     Typed(u8),
@@ -19,7 +22,7 @@ pub struct Definition {
 
 // What a table has for a character.
 pub enum Found {
-    Nothing,
+    Undefined,
     Is(Meaning),
 }
 
@@ -57,7 +60,7 @@ pub fn cell_of(f: Found) -> Cell
     ensures { λ r. ⌜ r ≡ cellOf f ⌝ }
 {
     match f {
-        Found::Nothing => Cell::Absent,
+        Found::Undefined => Cell::Absent,
         Found::Is(m) => meaning_cell(m),
     }
 }
@@ -78,7 +81,7 @@ pub fn target_of(f: Found) -> Maybe
     ensures { λ r. ⌜ r ≡ targetOf f ⌝ }
 {
     match f {
-        Found::Nothing => Maybe::Nothing,
+        Found::Undefined => Maybe::Nothing,
         Found::Is(m) => meaning_target(m),
     }
 }

@@ -2,20 +2,20 @@
 use mathlib.Core.Path.{_≡_, refl}
 use mathlib.Core.Bool.{true}
 use Rattle.attributes.specs.Cells.{cellFrom}
-use Rattle.attributes.specs.Compile.{readLine as readLine-attributes, step as step-attributes, compiled as compiled-attributes}
+use Rattle.attributes.specs.Compile.{readDotLine, dotStep, compiledAttributes}
 use Rattle.attributes.specs.Reader.{backgroundState, namedState, stateOf, stateAt, dotAt, dotLine}
-use Rattle.compiler.specs.Compile.{readLine as readLine-compiler, lineEffect, step as step-compiler, compiled as compiled-compiler, effects, compileReply, compileWords}
-use Rattle.compiler.specs.Conditions.{hasGlyph, hasCell}
-use Rattle.compiler.specs.Reader.{conditionOf, directiveOf, finished, dotsLine, aliasLine, glyphCondition, cellCondition, frontOf, ifHolds, readFrom}
+use Rattle.compiler.specs.Compile.{lineEffect, step, compiled, effects, compileReply, compileWords}
+use Rattle.reader.specs.Conditions.{hasGlyph, hasCell}
+use Rattle.reader.specs.Reader.{conditionOf, directiveOf, finished, dotsLine, aliasLine, glyphCondition, cellCondition, frontOf, ifHolds, readFrom, readLine}
 use Rattle.definitions.specs.Definitions.{find, explicit, aliasOf, walkWithin, walk, aliases, typedIn}
 use Rattle.definitions.specs.Effects.{verdictOf}
-use Rattle.growth.specs.Cases.{marked, wordsFor, comesOut, everyOne}
+use Rattle.growth.specs.Marked.{marked, wordsFor, comesOut, everyOne}
 use Rattle.lines.specs.Lines.{linesOf, withoutCR}
 use Rattle.lines.specs.Texts.{openingOf, runLines, runText}
 use Rattle.lines.specs.Words.{isBlank, firstFrom, firstAt, wordAt, sameBytes, isOver}
 use Rattle.lookup.specs.Calls.{lookupReply, firstNoScalar, pagePlan}
 use Rattle.lookup.specs.Rules.{candidates, choose, rulesFrom3, lookup}
-use Rattle.operands.specs.Characters.{digitOf, withDigit, digitsFrom, plainOf, shortOf, radixOf, numberOf, characterOf, byteOf}
+use Rattle.operands.specs.Characters.{digitOf, withDigit, digitsFrom, plainOf, shortOf, radixOf, wordNumber, characterOf, byteOf}
 use Rattle.operands.specs.Dots.{raiseBy, raise, raiseInside, endsAt, digitsAt, insideAt, cellAt, dotsAt}
 use Rattle.operands.specs.Operands.{characterAt, dotsOperandAt}
 use Rattle.table.specs.Check.{zeroFrom, checkFrom, checkOf, lentTable}
@@ -25,5 +25,5 @@ use Rattle.unicode.specs.Characters.{localOf, standsFor}
 use Rattle.unicode.specs.Utf8.{afterFirst, afterFurther, utf8From}
 
 pub marked-cases : everyOne marked ≡ true
-unfolding cellFrom readLine-attributes step-attributes compiled-attributes backgroundState namedState stateOf stateAt dotAt dotLine readLine-compiler lineEffect step-compiler compiled-compiler effects compileReply compileWords hasGlyph hasCell conditionOf directiveOf finished dotsLine aliasLine glyphCondition cellCondition frontOf ifHolds readFrom find explicit aliasOf walkWithin walk aliases typedIn verdictOf wordsFor comesOut everyOne linesOf withoutCR openingOf runLines runText isBlank firstFrom firstAt wordAt sameBytes isOver lookupReply firstNoScalar pagePlan candidates choose rulesFrom3 lookup digitOf withDigit digitsFrom plainOf shortOf radixOf numberOf characterOf byteOf raiseBy raise raiseInside endsAt digitsAt insideAt cellAt dotsAt characterAt dotsOperandAt zeroFrom checkFrom checkOf lentTable wordsOf isSoundWord meaningOf definitions filledFrom localOf standsFor afterFirst afterFurther utf8From
+unfolding cellFrom readDotLine dotStep compiledAttributes backgroundState namedState stateOf stateAt dotAt dotLine readLine lineEffect step compiled effects compileReply compileWords hasGlyph hasCell conditionOf directiveOf finished dotsLine aliasLine glyphCondition cellCondition frontOf ifHolds readFrom find explicit aliasOf walkWithin walk aliases typedIn verdictOf wordsFor comesOut everyOne linesOf withoutCR openingOf runLines runText isBlank firstFrom firstAt wordAt sameBytes isOver lookupReply firstNoScalar pagePlan candidates choose rulesFrom3 lookup digitOf withDigit digitsFrom plainOf shortOf radixOf wordNumber characterOf byteOf raiseBy raise raiseInside endsAt digitsAt insideAt cellAt dotsAt characterAt dotsOperandAt zeroFrom checkFrom checkOf lentTable wordsOf isSoundWord meaningOf definitions filledFrom localOf standsFor afterFirst afterFurther utf8From
 marked-cases = refl

@@ -15,7 +15,7 @@ use Rattle.definitions.specs.declared.Meaning.{Meaning}
 use Rattle.definitions.specs.declared.Meaning.the-variants.{Typed, Shown, Alias}
 use Rattle.definitions.specs.declared.Definition.{Definition}
 use Rattle.definitions.specs.declared.Found.{Found}
-use Rattle.definitions.specs.declared.Found.the-variants.{Nothing, Is}
+use Rattle.definitions.specs.declared.Found.the-variants.{Undefined, Is}
 use Rattle.definitions.specs.declared.Cell.{Cell}
 use Rattle.definitions.specs.declared.Cell.the-variants.{Absent, Dots}
 use Rattle.definitions.specs.declared.Walk.{Walk}
@@ -25,6 +25,7 @@ use Rattle.definitions.proofs.Finds.{found-kept, found-same}
 use Rattle.definitions.proofs.Walks.{Walks, walk-unique, walk-kept}
 use Rattle.definitions.proofs.Admission.{Admits, admits-first, walk-walks}
 use Rattle.lookup.specs.declared.Answer.{Answer}
+use Rattle.lookup.proofs.Choices.{choose-chosen}
 use Rattle.lookup.specs.Rules.{explicitOf, endCell, candidates, choose, rulesFrom3, lookup}
 
 -- the second answer's rule is the first's or smaller; where it is the same, so is the cell
@@ -60,18 +61,12 @@ data Kept : List Cell → List Cell → Type 0 where
   none : Kept [] []
   more : {o p : Cell} {os ps : List Cell} → Keeps o p → Kept os ps → Kept (o ∷ os) (p ∷ ps)
 
-choose-from : (os : List Cell) (r links : ℕ) → r ≤ choose r os links .rule
-unfolding choose
-choose-from [] r links = le-refl r
-choose-from (Absent ∷ os) r links = omega (arith, choose-from os (r + 1) links)
-choose-from (Dots dots ∷ os) r links = le-refl r
-
 choose-kept : {os ps : List Cell} → Kept os ps → (r links links′ : ℕ) → NotSpoiled (choose r os links) (choose r ps links′)
 unfolding choose
 choose-kept none r links links′ = record { rule = le-refl r; cell = λ e. refl }
 choose-kept (more {o = Absent} {p = Absent} h t) r links links′ = choose-kept t (r + 1) links links′
 choose-kept (more {o = Absent} {p = Dots dots} {os = os} h t) r links links′ =
-    record { rule = omega (arith, choose-from os (r + 1) links); cell = λ e. absurd (omega (arith, choose-from os (r + 1) links)) }
+    record { rule = omega (arith, choose-chosen (r + 1) os links); cell = λ e. absurd (omega (arith, choose-chosen (r + 1) os links)) }
 choose-kept (more {o = Dots dots} {p = p} h t) r links links′ = rw (h dots refl) (record { rule = le-refl r; cell = λ e. refl })
 
 pick-kept : (b : Bool) (a : Answer) {x y : Answer} → NotSpoiled x y → NotSpoiled (pick b a x) (pick b a y)
@@ -89,21 +84,21 @@ walk-as (p, q) = λ i. record { end = p i; links = q i }
 
 -- G has all that T has, and no walk of either is cut
 module _ (T G : Table) (keep : (c : ℕ) (m : Meaning) → T .found c ≡ Is m → G .found c ≡ Is m) (whole : Whole T) (whole′ : Whole G) where
+  -- what is read off what T has for a character, and is not read off none, is read off what G has
+  read-kept : {X : Type 0} (of : Found → X) (v : X) → (of Undefined ≡ v → ⊥) → (c : ℕ) → of (T .found c) ≡ v → of (G .found c) ≡ v
+  read-kept of v unread c = go (T .found c) refl
+    where
+      go : (f : Found) → T .found c ≡ f → of f ≡ v → of (G .found c) ≡ v
+      go Undefined p e = absurd (unread e)
+      go (Is m) p e = rw (keep c m p) e
+
   cell-kept : (c : ℕ) → Keeps (explicit T c) (explicit G c)
   unfolding explicit
-  cell-kept c dots = go (T .found c) refl
-    where
-      go : (f : Found) → T .found c ≡ f → cellOf f ≡ Dots dots → cellOf (G .found c) ≡ Dots dots
-      go Nothing p e = cc
-      go (Is m) p e = rw (keep c m p) e
+  cell-kept c dots e = read-kept cellOf (Dots dots) (λ q. let z : _≡_ {A = ℕ} 0 1 = cc in omega arith) c e
 
   alias-kept : (c t : ℕ) → aliasOf T c ≡ M.Character t → aliasOf G c ≡ M.Character t
   unfolding aliasOf
-  alias-kept c t = go (T .found c) refl
-    where
-      go : (f : Found) → T .found c ≡ f → targetOf f ≡ M.Character t → targetOf (G .found c) ≡ M.Character t
-      go Nothing p e = cc
-      go (Is m) p e = rw (keep c m p) e
+  alias-kept c t e = read-kept targetOf (M.Character t) (λ q. let z : _≡_ {A = ℕ} 0 1 = cc in omega arith) c e
 
   other-kept : (o : Maybe) → Keeps (explicitOf T o) (explicitOf G o)
   other-kept M.Nothing dots e = e
@@ -115,7 +110,7 @@ module _ (T G : Table) (keep : (c : ℕ) (m : Meaning) → T .found c ≡ Is m �
   no-alias c dots = go (G .found c)
     where
       go : (f : Found) → cellOf f ≡ Dots dots → targetOf f ≡ M.Nothing
-      go Nothing e = refl
+      go Undefined e = refl
       go (Is (Typed n)) e = refl
       go (Is (Shown n)) e = refl
       go (Is (Alias n)) e = cc

@@ -1,11 +1,10 @@
 -- Demand 3, "Growing a table never spoils an answer": what is claimed of a text, of bytes after it, and of two lent slices.
 use Prim.Native.Nat.{ℕ, _≤_, _<_}
 use mathlib.Core.Path.{_≡_}
-use mathlib.Core.Bool.{Bool, true, false}
+use mathlib.Core.Bool.{true, false}
 use mathlib.Core.List.{List, [], _++_}
 use lib.ListN.{length}
-use Rattle.basics.specs.Refusals.{Reply, answered, refused}
-use Rattle.basics.specs.declared.Maybe.{Maybe}
+use Rattle.basics.specs.Refusals.{answered}
 use Rattle.basics.specs.declared.Maybe.the-variants.{Character}
 use Rattle.unicode.specs.Characters.{isScalar, localOf, baseOf, standInOf}
 use Rattle.lines.specs.Lines.{linesOf, isEnded}

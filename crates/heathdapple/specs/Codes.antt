@@ -7,7 +7,7 @@ use Rattle.basics.specs.declared.Maybe.{Maybe}
 use Rattle.lookup.specs.declared.Answer.{Answer}
 use Rattle.typing.specs.Typing.{typingReply, typedBy}
 use Rattle.attributes.specs.Cells.{attributeCell}
-use Rattle.attributes.specs.Compile.{compiled, outcomeReply, outcomePlaces}
+use Rattle.attributes.specs.Compile.{compiledAttributes, attributesReply, outcomePlaces}
 
 -- a refusal: its number × 2^32 + its place, a place beyond 2^32 − 1 given as 2^32 − 1
 abbrev pub refusalCode : ℕ → ℕ → ℕ
@@ -42,4 +42,4 @@ typedCode ws cell = codeOf (λ u. characterCode (typedBy ws cell)) (typingReply 
 
 -- attributes: the cell of the byte
 abbrev pub attributeCode : List ℕ → ℕ → ℕ
-attributeCode text byte = codeOf (λ lines. attributeCell (outcomePlaces (compiled text)) byte) (outcomeReply (compiled text))
+attributeCode text byte = codeOf (λ lines. attributeCell (outcomePlaces (compiledAttributes text)) byte) (attributesReply (compiledAttributes text))

@@ -1,18 +1,17 @@
 // The calls exported for C and Rust. Each answers one number; specs/Codes.antt says how.
-use attributes::AttributesAnswer;
+use basics::Filling;
 use basics::Maybe;
 use basics::Refusal;
-use compiler::Compiled;
+use lines::Compiled;
 use lookup::Answer;
 use lookup::Looked;
-use lookup::Paged;
-use typing::Typed;
 ghost use mathlib.Core.Path.{_≡_};
 ghost use Prim.Native.Nat.{_≤_};
 ghost use lib.ListN.{length};
 ghost use Rattle.basics.specs.Refusals.{numberOf};
+ghost use Rattle.definitions.specs.Effects.{definitionLimit};
 ghost use Rattle.compiler.specs.Compile.{compileReply, compileWords};
-ghost use Rattle.lookup.specs.Calls.{lookupReply, pagePlan, pageReply, pageCells, pageRules};
+ghost use Rattle.lookup.specs.Calls.{lookupReply, pagePlan, Pages};
 ghost use Rattle.heathdapple.specs.Codes.{refusalCode, compileCode, answerCode, lookupCode, pageCode, characterCode, typedCode, attributeCode};
 
 // A refusal as one number.
@@ -40,7 +39,7 @@ pub extern "C" fn heathdapple_compile(text: &[u8], words: &mut [u32]) -> u64
 
 // What lookup shows, as one number.
 fn answer_code(a: Answer) -> u64
-    requires { ⌜ a .links ≤ 1024 ⌝ }
+    requires { ⌜ a .links ≤ definitionLimit ⌝ }
     ensures { λ r. ⌜ r ≡ answerCode a ⌝ }
 {
     a.cell as u64 + 0x100 * (a.rule as u64) + 0x10000 * (a.links as u64)
@@ -52,7 +51,7 @@ pub extern "C" fn heathdapple_look_up(words: &[u32], character: u32) -> u64
     ensures { λ r. ⌜ r ≡ lookupCode (lookupReply (now (words .entry)) character) ⌝ }
 {
     match lookup::look_up(words, character) {
-        Looked::Shown(a) => answer_code(a),
+        Looked::Answered(a) => answer_code(a),
         Looked::Refused(refusal, place) => refusal_code(refusal, place),
     }
 }
@@ -65,13 +64,11 @@ pub extern "C" fn heathdapple_page(
     cells: &mut [u8],
     rules: &mut [u8],
 ) -> u64
-    ensures code { λ r. ⌜ r ≡ pageCode (pageReply (pagePlan (now (words .entry)) (now (characters .entry)) (length (now (cells .entry))) (length (now (rules .entry))))) ⌝ }
-    ensures cells { λ r. ⌜ now (cells .exit) ≡ pageCells (pagePlan (now (words .entry)) (now (characters .entry)) (length (now (cells .entry))) (length (now (rules .entry)))) (now (characters .entry)) (now (cells .entry)) ⌝ }
-    ensures rules { λ r. ⌜ now (rules .exit) ≡ pageRules (pagePlan (now (words .entry)) (now (characters .entry)) (length (now (cells .entry))) (length (now (rules .entry)))) (now (characters .entry)) (now (rules .entry)) ⌝ }
+    ensures { λ r. ⌜ Pages pageCode (pagePlan (now (words .entry)) (now (characters .entry)) (length (now (cells .entry))) (length (now (rules .entry)))) (now (characters .entry)) (now (cells .entry)) (now (rules .entry)) r (now (cells .exit)) (now (rules .exit)) ⌝ }
 {
     match lookup::page(words, characters, cells, rules) {
-        Paged::Filled => 0,
-        Paged::Refused(refusal, place) => refusal_code(refusal, place),
+        Filling::Filled => 0,
+        Filling::Refused(refusal, place) => refusal_code(refusal, place),
     }
 }
 
@@ -94,13 +91,13 @@ pub extern "C" fn heathdapple_typed(words: &[u32], cell: u8) -> u64
     let answer = typing.answer;
     let entries = typing.entries;
     match answer {
-        Typed::Filled => {
+        Filling::Filled => {
             let at = cell as usize;
             let e = entries[at];
             let typed = e.types;
             character_code(typed)
         }
-        Typed::Refused(refusal, place) => refusal_code(refusal, place),
+        Filling::Refused(refusal, place) => refusal_code(refusal, place),
     }
 }
 
@@ -113,7 +110,7 @@ pub extern "C" fn heathdapple_attribute_cell(text: &[u8], byte: u8) -> u64
     let answer = table.answer;
     let places = table.places;
     match answer {
-        AttributesAnswer::Accepted(_) => attributes::attribute_cell(places, byte) as u64,
-        AttributesAnswer::Refused(refusal, line) => refusal_code(refusal, line),
+        Compiled::Accepted(_) => attributes::attribute_cell(places, byte) as u64,
+        Compiled::Refused(refusal, line) => refusal_code(refusal, line),
     }
 }

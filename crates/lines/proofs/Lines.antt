@@ -3,20 +3,21 @@ use Prim.Native.Nat.{ℕ, suc, _+_, _-_, _≤_, _<_}
 use mathlib.Core.Path.{_≡_, refl, sym, ap, _∙_}
 use mathlib.Core.List.{List, [], _∷_}
 use lib.ListN.{length, take, drop, getD, drop-of-length-le}
-use lib.Seq.{drop-cons, take-length}
+use lib.Seq.{drop-cons}
 use native.Mathlib.Nat.{add-zero}
 use native.Mathlib.Numerals.{add-one}
 use native.Mathlib.Omega.{arith}
 use borrow.Author.Tests.{eq-eqb, ne-eqb}
-use Rattle.lines.specs.Lines.{toLF, withoutCR}
+use Rattle.lines.specs.Lines.{LF, CR, withoutCR}
+use Rattle.lines.specs.Internal.{toLF}
 
 -- x is what the loop is to answer
 module _ (x : ℕ) (text : List ℕ) (i : ℕ) (inv : x ≡ i + toLF (drop i text)) where
-  pub end-here : i < length text → getD text i 0 ≡ 10 → i ≡ x
+  pub end-here : i < length text → getD text i 0 ≡ LF → i ≡ x
   unfolding toLF
   end-here h q = sym (inv ∙ rw (drop-cons text i 0, eq-eqb _ _ q, add-zero i))
 
-  pub end-on : i < length text → (getD text i 0 ≡ 10 → ⊥) → x ≡ (i + 1) + toLF (drop (i + 1) text)
+  pub end-on : i < length text → (getD text i 0 ≡ LF → ⊥) → x ≡ (i + 1) + toLF (drop (i + 1) text)
   unfolding toLF
   end-on h q = inv ∙ rw (drop-cons text i 0, ne-eqb _ _ q, add-one i) (omega arith)
 
@@ -33,17 +34,14 @@ cr-empty (b ∷ bs) h = absurd (omega arith)
 last-on : (r : List ℕ) → suc (suc (length r)) - 1 ≡ suc (suc (length r) - 1)
 last-on r = omega arith
 
-pub cr-last : (line : List ℕ) → getD line (length line - 1) 0 ≡ 13 → take (length line - 1) line ≡ withoutCR line
+pub cr-last : (line : List ℕ) → getD line (length line - 1) 0 ≡ CR → take (length line - 1) line ≡ withoutCR line
 unfolding withoutCR
 cr-last [] q = refl
 cr-last (b ∷ []) q = rw (eq-eqb _ _ q)
 cr-last (b ∷ c ∷ r) q = rw (last-on r) (ap (λ (l : List ℕ). b ∷ l) (cr-last (c ∷ r) (rw (last-on r) at q)))
 
-no-cr : (line : List ℕ) → (getD line (length line - 1) 0 ≡ 13 → ⊥) → line ≡ withoutCR line
+pub cr-none : (line : List ℕ) → (getD line (length line - 1) 0 ≡ CR → ⊥) → take (length line) line ≡ withoutCR line
 unfolding withoutCR
-no-cr [] q = refl
-no-cr (b ∷ []) q = rw (ne-eqb _ _ q)
-no-cr (b ∷ c ∷ r) q = ap (λ (l : List ℕ). b ∷ l) (no-cr (c ∷ r) (rw (last-on r) at q))
-
-pub cr-none : (line : List ℕ) → (getD line (length line - 1) 0 ≡ 13 → ⊥) → take (length line) line ≡ withoutCR line
-cr-none line q = take-length line ∙ no-cr line q
+cr-none [] q = refl
+cr-none (b ∷ []) q = rw (ne-eqb _ _ q)
+cr-none (b ∷ c ∷ r) q = ap (λ (l : List ℕ). b ∷ l) (cr-none (c ∷ r) (rw (last-on r) at q))

@@ -1,44 +1,43 @@
--- Each way to a line's opening: what the calls answered, put into the definitions.
+-- Each way to a line's opening: what the calls answered, put into the definitions; and each way on from it.
 use Prim.Native.Nat.{ℕ, _-_, _≤_}
 use mathlib.Core.Path.{_≡_}
-use mathlib.Core.Bool.{Bool, true, false}
+use mathlib.Core.Bool.{Bool, _||_}
 use mathlib.Core.List.{List}
 use lib.ListN.{length, getD}
 use lib.Dec.{eqb}
-use borrow.Author.Tests.{eq-eqb, ne-eqb, le-ltb}
-use Rattle.basics.specs.Choice.{pick}
-use Rattle.basics.specs.declared.Refusal.the-variants.{NotUtf8}
-use Rattle.unicode.specs.Utf8.{utf8, BadWithin}
+use borrow.Author.Tests.{le-ltb}
+use Rattle.basics.specs.declared.Refusal.{Refusal}
+use Rattle.unicode.specs.Utf8.{utf8}
+use Rattle.unicode.specs.Internal.{BadWithin}
 use Rattle.unicode.specs.declared.Validity.{Validity}
-use Rattle.unicode.specs.declared.Validity.the-variants.{Good, BadAt}
-use Rattle.lines.specs.Words.{wordAt, isOver}
-use Rattle.lines.specs.Texts.{openingOf}
+use Rattle.unicode.specs.declared.Validity.the-variants.{BadAt}
+use Rattle.lines.specs.Words.{wordAt, isMissing, isOver}
+use Rattle.lines.specs.Texts.{lineLimit, validOpening, openingOf, ifDirective}
 use Rattle.lines.specs.declared.Word.{Word}
+use Rattle.lines.specs.declared.Opening.{Opening}
 use Rattle.lines.specs.declared.Opening.the-variants.{Fault, Skip, Directive}
 
-module _ (line : List ℕ) (at : ℕ) (w : Word) (e : w ≡ wordAt line at) where
-  pub over-none : w .start ≡ w .end → true ≡ isOver line at
-  unfolding isOver
-  over-none q = rw (← e, eq-eqb _ _ q)
-
-  pub over-word : (w .start ≡ w .end → ⊥) → eqb (getD line (w .start) 0) 35 ≡ isOver line at
-  unfolding isOver
-  over-word q = rw (← e, ne-eqb _ _ q)
+pub over-at : (line : List ℕ) (at : ℕ) {w : Word} {r : Bool} → w ≡ wordAt line at → r ≡ (isMissing w || eqb (getD line (w .start) 0) 35) → r ≡ isOver line at
+unfolding isOver
+over-at line at e h = rw (← e) h
 
 pub bad-within : (v : Validity) (p n : ℕ) → v ≡ BadAt p → BadWithin v n → p ≤ n
 bad-within v p n q h = rw q at h
 
-module _ (line : List ℕ) (v : Validity) (short : length line ≤ 1024) (e : v ≡ utf8 line) where
-  pub open-bad : (p : ℕ) → v ≡ BadAt p → Fault NotUtf8 (length line - p) ≡ openingOf line
-  unfolding openingOf
-  open-bad p q = rw (le-ltb _ _ short, ← e, q)
+-- v is what the check of its bytes answered
+pub opened : (line : List ℕ) {v k : Validity} {r : Opening} → length line ≤ lineLimit → v ≡ utf8 line → v ≡ k → r ≡ validOpening line k → r ≡ openingOf line
+unfolding openingOf
+opened line short e q h = rw (le-ltb _ _ short, ← e, q) h
 
-  open-good : (over : Bool) → v ≡ Good → over ≡ isOver line 0 → pick over Skip Directive ≡ openingOf line
-  unfolding openingOf
-  open-good over q f = rw (le-ltb _ _ short, ← e, q, ← f)
+-- o is what a call answered of a line's opening
+module _ {A : Type 0} (o x : Opening) (bad : Refusal → ℕ → A) (skipped read v : A) (e : o ≡ x) where
+  pub opening-fault : (refusal : Refusal) (left : ℕ) → o ≡ Fault refusal left → v ≡ bad refusal left → v ≡ ifDirective x bad skipped read
+  opening-fault refusal left q h = rw (← e, q) h
 
-  pub open-skip : (over : Bool) → v ≡ Good → over ≡ isOver line 0 → over ≡ true → Skip ≡ openingOf line
-  open-skip over q f t = rw t at (open-good over q f)
+  pub opening-skip : o ≡ Skip → v ≡ skipped → v ≡ ifDirective x bad skipped read
+  opening-skip q h = rw (← e, q) h
 
-  pub open-directive : (over : Bool) → v ≡ Good → over ≡ isOver line 0 → over ≡ false → Directive ≡ openingOf line
-  open-directive over q f t = rw t at (open-good over q f)
+  pub opening-directive : o ≡ Directive → v ≡ read → v ≡ ifDirective x bad skipped read
+  opening-directive q h = rw (← e, q) h
+
+pub ruleset on-opening = (opening-fault, opening-skip, opening-directive)

@@ -1,6 +1,6 @@
 -- One byte more of a scan and of a comparison, by position: what the loops over bytes go by.
 use Prim.Native.Nat.{ℕ, _+_, _<_, _≤_}
-use mathlib.Core.Path.{_≡_, refl, sym, _∙_}
+use mathlib.Core.Path.{_≡_, sym, _∙_}
 use mathlib.Core.Bool.{Bool, true, false, Bool·beq}
 use mathlib.Core.List.{List}
 use lib.ListN.{length, drop, getD, drop-of-length-le}
@@ -8,6 +8,7 @@ use lib.Seq.{drop-cons}
 use lib.Dec.{leb}
 use borrow.Author.Tests.{eq-eqb, ne-eqb, leb-true, leb-false}
 use native.Mathlib.Numerals.{add-one}
+use Rattle.basics.proofs.Tests.{by-cases}
 use Rattle.lines.specs.Words.{isBlank, firstFrom, sameBytes}
 
 -- x is what the loop is to answer
@@ -41,8 +42,7 @@ module _ (x : Bool) (a b : List ℕ) (i : ℕ) (inv : x ≡ sameBytes (drop i a)
 
   pub same-over : length a ≤ i → leb (length b) i ≡ x
   unfolding sameBytes
-  same-over h = by (leb (length b) i) refl
-    where
-      by : (t : Bool) → leb (length b) i ≡ t → leb (length b) i ≡ x
-      by true q = q ∙ sym (inv ∙ rw (drop-of-length-le a h, drop-of-length-le b (leb-true _ _ q)))
-      by false q = q ∙ sym (inv ∙ rw (drop-of-length-le a h, drop-cons b i 0 (leb-false _ _ q)))
+  same-over h =
+      by-cases (leb (length b) i)
+      (λ q. q ∙ sym (inv ∙ rw (drop-of-length-le a h, drop-of-length-le b (leb-true _ _ q))))
+      (λ q. q ∙ sym (inv ∙ rw (drop-of-length-le a h, drop-cons b i 0 (leb-false _ _ q))))

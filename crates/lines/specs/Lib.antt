@@ -1,3 +1,4 @@
 pub mod Lines
 pub mod Words
 pub mod Texts
+pub mod Internal

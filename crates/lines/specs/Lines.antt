@@ -1,9 +1,7 @@
 -- The lines of a text.
-use Prim.Native.Nat.{ℕ, _+_, _≤_}
-use mathlib.Core.Path.{_≡_}
-use mathlib.Core.Bool.{Bool, true, false}
+use Prim.Native.Nat.{ℕ}
+use mathlib.Core.Bool.{Bool}
 use mathlib.Core.List.{List, [], _∷_}
-use lib.ListN.{length, take, drop}
 use lib.Dec.{eqb}
 use Rattle.basics.specs.Choice.{pick}
 
@@ -37,21 +35,3 @@ lastOr d (b ∷ bs) = lastOr b bs
 -- a text that is empty or ends in LF
 abbrev pub isEnded : List ℕ → Bool
 isEnded text = eqb (lastOr LF text) LF
-
--- how many bytes stand before the first LF, or all
-unfoldable pub toLF : List ℕ → ℕ
-toLF [] = 0
-toLF (b ∷ bs) =
-    let rest : ℕ = toLF bs + 1 in
-    pick (eqb b LF) 0 rest
-
--- the position where the line that begins at a position ends
-pub record LineEnd (text : List ℕ) (at end : ℕ) : Type 0 where
-  pub is : end ≡ at + toLF (drop at text)
-  pub from : at ≤ end
-  pub within : end ≤ length text
-
--- how many bytes of a line stand before its one CR
-pub record Trimmed (line : List ℕ) (n : ℕ) : Type 0 where
-  pub is : take n line ≡ withoutCR line
-  pub within : n ≤ length line

@@ -1,10 +1,11 @@
--- A text is read line by line; the first line that is refused decides. How a line changes the state is a parameter.
+-- A text is read line by line; the first line that is refused decides. How a line changes the state is a parameter. And what a
+-- compile call answers, for every kind of table.
 use Prim.Native.Nat.{ℕ, _+_, _-_}
-use mathlib.Core.Bool.{Bool, true, false}
 use mathlib.Core.List.{List, [], _∷_}
 use lib.ListN.{length}
 use lib.Dec.{ltb}
 use Rattle.basics.specs.Choice.{pick}
+use Rattle.basics.specs.Refusals.{numberOf, Reply, answered, refused}
 use Rattle.basics.specs.declared.Refusal.{Refusal}
 use Rattle.basics.specs.declared.Refusal.the-variants.{TextTooLong, LineTooLong, NotUtf8}
 use Rattle.unicode.specs.Utf8.{utf8}
@@ -14,6 +15,8 @@ use Rattle.lines.specs.Lines.{linesOf, withoutCR}
 use Rattle.lines.specs.Words.{isOver}
 use Rattle.lines.specs.declared.Opening.{Opening}
 use Rattle.lines.specs.declared.Opening.the-variants.{Fault, Skip, Directive}
+use Rattle.lines.specs.declared.Compiled.{Compiled}
+use Rattle.lines.specs.declared.Compiled.the-variants as C
 
 -- a text is at most 65,536 bytes, a line without its end at most 1,024
 abbrev pub textLimit : ℕ
@@ -32,6 +35,12 @@ unfoldable pub openingOf : List ℕ → Opening
 openingOf line =
     let valid : Opening = validOpening line (utf8 line) in
     pick (ltb lineLimit (length line)) (Fault LineTooLong (length line - lineLimit)) valid
+
+-- what follows from a line that opens so: from its fault, from nothing to read, from its directive
+abbrev pub ifDirective : {A : Type 0} → Opening → (Refusal → ℕ → A) → A → A → A
+ifDirective (Fault refusal left) bad skipped read = bad refusal left
+ifDirective Skip bad skipped read = skipped
+ifDirective Directive bad skipped read = read
 
 -- what a line does: it leaves a state, or is refused
 pub data Step (S : Type 0) : Type 0 where
@@ -57,3 +66,13 @@ unfoldable pub runText : {S : Type 0} → (S → List ℕ → Step S) → S → 
 runText step s text =
     let run = runLines step (linesOf text) 1 s in
     pick (ltb textLimit (length text)) (rejected TextTooLong 0) run
+
+-- the compile call of a text: a count of what it gives, or the refusal with its line
+abbrev pub outcomeReply : {S : Type 0} → (S → ℕ) → Outcome S → Reply ℕ
+outcomeReply count (accepted s) = answered (count s)
+outcomeReply count (rejected refusal line) = refused (numberOf refusal) line
+
+-- the number, place and value of each case of its answer
+abbrev pub compiledReply : Compiled → Reply ℕ
+compiledReply (C.Accepted count) = answered count
+compiledReply (C.Refused refusal line) = refused (numberOf refusal) line

@@ -1,9 +1,8 @@
 -- The words of a line: whitespace, the next word, its spelling, comments.
-use Prim.Native.Nat.{ℕ, _+_, _-_, _≤_}
-use mathlib.Core.Path.{_≡_}
+use Prim.Native.Nat.{ℕ, _+_, _-_}
 use mathlib.Core.Bool.{Bool, true, false, _||_, Bool·beq}
 use mathlib.Core.List.{List, [], _∷_}
-use lib.ListN.{length, getD, take, drop}
+use lib.ListN.{getD, take, drop}
 use lib.Dec.{eqb}
 use Rattle.basics.specs.Choice.{pick}
 use Rattle.lines.specs.declared.Word.{Word}
@@ -48,15 +47,3 @@ unfoldable pub isOver : List ℕ → ℕ → Bool
 isOver line at =
     let w : Word = wordAt line at in
     isMissing w || eqb (getD line (w .start) 0) 35
-
--- a position that a scan from `at` on answers, and the word that a search from `at` on answers
-pub record FirstAt (blank : Bool) (line : List ℕ) (at r : ℕ) : Type 0 where
-  pub is : r ≡ firstAt blank line at
-  pub from : at ≤ r
-  pub within : r ≤ length line
-
-pub record NextWord (line : List ℕ) (at : ℕ) (w : Word) : Type 0 where
-  pub is : w ≡ wordAt line at
-  pub from : at ≤ w .start
-  pub order : w .start ≤ w .end
-  pub within : w .end ≤ length line

@@ -1,12 +1,17 @@
-// The lines of a text, and the words of a line.
+// The lines of a text, the words of a line, and what every compile call answers.
 use basics::Refusal;
 use unicode::Validity;
 ghost use mathlib.Core.Path.{_≡_};
 ghost use Prim.Native.Nat.{_≤_};
 ghost use lib.ListN.{length};
-ghost use Rattle.lines.specs.Lines.{LineEnd, Trimmed};
-ghost use Rattle.lines.specs.Words.{isBlank, FirstAt, NextWord, sameBytes, isOver};
+ghost use Rattle.lines.specs.Words.{isBlank, sameBytes, isOver};
 ghost use Rattle.lines.specs.Texts.{openingOf};
+ghost use Rattle.lines.specs.Internal.{LineEnd, Trimmed, FirstAt, NextWord};
+
+// How many bytes a text may have, and a line without its end.
+pub const TEXT_LIMIT: usize = 65536;
+
+const LINE_LIMIT: usize = 1024;
 
 // A word of a line: the position of its first byte and the one after its last; equal where there is no word.
 pub struct Word {
@@ -20,6 +25,18 @@ pub enum Opening {
     Fault(Refusal, usize),
     Skip,
     Directive,
+}
+
+// What a compile call answers: a count of what the text gave, or a refusal with its line.
+pub enum Compiled {
+    Accepted(usize),
+    Refused(Refusal, usize),
+}
+
+// Whether a line was refused; the state that it leaves stands beside.
+pub enum Stopped {
+    No,
+    By(Refusal),
 }
 
 // Where the line that begins at `at` ends: at its LF, or at the end of the text.
@@ -122,8 +139,8 @@ pub fn open_line(line: &[u8]) -> Opening
     ensures { λ r. ⌜ r ≡ openingOf (now (line .entry)) ⌝ }
 {
     let n = line.len();
-    if 1024 < n {
-        return Opening::Fault(Refusal::LineTooLong, n - 1024);
+    if LINE_LIMIT < n {
+        return Opening::Fault(Refusal::LineTooLong, n - LINE_LIMIT);
     }
     match unicode::check_utf8(line) {
         Validity::BadAt(p) => Opening::Fault(Refusal::NotUtf8, n - p),

@@ -1,3 +1,3 @@
-pub mod WholeWalks
 pub mod Choices
+pub mod WholeWalks
 pub mod Replies

@@ -1,6 +1,7 @@
 -- What the lookup call and the page call answer and write. Order of refusals: 2, 15, 14.
 use Prim.Native.Nat.{ℕ, _+_}
-use mathlib.Core.Bool.{Bool, true, false, _||_}
+use mathlib.Core.Path.{_≡_}
+use mathlib.Core.Bool.{_||_}
 use mathlib.Core.List.{List, [], _∷_, _++_, map}
 use lib.ListN.{length, drop}
 use lib.Dec.{ltb}
@@ -14,8 +15,6 @@ use Rattle.lookup.specs.Rules.{lookup}
 use Rattle.lookup.specs.declared.Answer.{Answer}
 use Rattle.lookup.specs.declared.Looked.{Looked}
 use Rattle.lookup.specs.declared.Looked.the-variants as L
-use Rattle.lookup.specs.declared.Paged.{Paged}
-use Rattle.lookup.specs.declared.Paged.the-variants as P
 use Rattle.lookup.specs.declared.NoScalar.{NoScalar}
 use Rattle.lookup.specs.declared.NoScalar.the-variants.{Nowhere, At}
 
@@ -25,7 +24,7 @@ lookupReply ws c = andThen (lentTable ws) (λ ds. pick (isScalar c) (answered (l
 
 -- the number, place and values of each case of its answer
 abbrev pub lookedReply : Looked → Reply Answer
-lookedReply (L.Shown a) = answered a
+lookedReply (L.Answered a) = answered a
 lookedReply (L.Refused refusal place) = refused (numberOf refusal) place
 
 -- what is promised of the links beside: on a compiled table no walk is cut short
@@ -54,10 +53,6 @@ pagePlan ws cs cells rules =
 abbrev pub pageReply : Reply (List Definition) → Reply (Unit {0})
 pageReply plan = andThen plan (λ ds. answered tt)
 
-abbrev pub pagedReply : Paged → Reply (Unit {0})
-pagedReply P.Filled = answered tt
-pagedReply (P.Refused refusal place) = refused (numberOf refusal) place
-
 -- new bytes at the front of a buffer; those past them stay
 abbrev pub over : List ℕ → List ℕ → List ℕ
 over new old = new ++ drop (length new) old
@@ -70,3 +65,9 @@ pageCells (refused number place) cs old = old
 abbrev pub pageRules : Reply (List Definition) → List ℕ → List ℕ → List ℕ
 pageRules (answered ds) cs old = over (map (λ (c : ℕ). lookup (table ds) c .rule) cs) old
 pageRules (refused number place) cs old = old
+
+-- what the call is to do by its plan: its answer, given as `given` says, and both buffers
+pub record Pages {A : Type 0} (given : Reply (Unit {0}) → A) (plan : Reply (List Definition)) (cs old-cells old-rules : List ℕ) (told : A) (new-cells new-rules : List ℕ) : Type 0 where
+  pub answer : told ≡ given (pageReply plan)
+  pub cells : new-cells ≡ pageCells plan cs old-cells
+  pub rules : new-rules ≡ pageRules plan cs old-rules

@@ -1,18 +1,21 @@
 // From a character to its cell: the nine rules, the lookup call and the page call.
+use basics::Filling;
 use basics::Maybe;
 use basics::Refusal;
 use definitions::Cell;
 use table::Checked;
+use table::TABLE_WORDS;
 ghost use mathlib.Core.Path.{_≡_};
-ghost use mathlib.Core.List.{[], _∷_, map};
+ghost use mathlib.Core.List.{map};
 ghost use Prim.Native.Nat.{_+_, _*_, _≤_, _<_};
 ghost use lib.ListN.{length};
-ghost use Rattle.unicode.specs.Characters.{localOf, baseOf, standInOf};
-ghost use Rattle.definitions.specs.Definitions.{table, explicit};
-ghost use Rattle.table.specs.Words.{definitions};
+ghost use Rattle.basics.specs.Refusals.{fillingReply};
+ghost use Rattle.unicode.specs.Characters.{localOf};
+ghost use Rattle.table.specs.Words.{tableOf};
 ghost use Rattle.table.specs.Check.{lentTable};
 ghost use Rattle.lookup.specs.Rules.{explicitOf, choose, rulesFrom3, lookup};
-ghost use Rattle.lookup.specs.Calls.{lookupReply, lookedReply, LentWhole, firstNoScalar, pagePlan, pageReply, pagedReply, over, pageCells, pageRules};
+ghost use Rattle.lookup.specs.Calls.{lookupReply, lookedReply, LentWhole, firstNoScalar, pagePlan, over, Pages};
+ghost use Rattle.lookup.specs.Internal.{lastCandidates, laterCandidates};
 
 // A cell, the number of the rule that gave it, and the length of the alias walk.
 pub struct Answer {
@@ -23,13 +26,7 @@ pub struct Answer {
 
 // What the lookup call answers; a refusal with its place.
 pub enum Looked {
-    Shown(Answer),
-    Refused(Refusal, usize),
-}
-
-// What the page call answers; a refusal with its place.
-pub enum Paged {
-    Filled,
+    Answered(Answer),
     Refused(Refusal, usize),
 }
 
@@ -42,7 +39,7 @@ pub enum NoScalar {
 // The explicit cell of a character that there may be.
 fn explicit_of(words: &[u32], count: usize, other: Maybe) -> Cell
     requires { ⌜ 2 * count ≤ length (now words) ⌝ }
-    ensures { λ r. ⌜ r ≡ explicitOf (table (definitions count (now (words .entry)))) other ⌝ }
+    ensures { λ r. ⌜ r ≡ explicitOf (tableOf count (now (words .entry))) other ⌝ }
 {
     match other {
         Maybe::Nothing => Cell::Absent,
@@ -53,7 +50,7 @@ fn explicit_of(words: &[u32], count: usize, other: Maybe) -> Cell
 // Rules 7 to 9.
 fn last_rules(words: &[u32], count: usize, links: usize) -> Answer
     requires { ⌜ 2 * count ≤ length (now words) ⌝ }
-    ensures { λ r. ⌜ r ≡ choose 7 (explicit (table (definitions count (now (words .entry)))) 0xFFFD ∷ explicit (table (definitions count (now (words .entry)))) 0x3F ∷ []) links ⌝ }
+    ensures { λ r. ⌜ r ≡ choose 7 (lastCandidates (tableOf count (now (words .entry)))) links ⌝ }
 {
     if let Cell::Dots(cell) = table::explicit_cell(words, count, 0xFFFD) {
         return Answer {
@@ -79,7 +76,7 @@ fn last_rules(words: &[u32], count: usize, links: usize) -> Answer
 // Rules 5 to 9.
 fn later_rules(words: &[u32], count: usize, c: u32, links: usize) -> Answer
     requires { ⌜ 2 * count ≤ length (now words) ⌝ }
-    ensures { λ r. ⌜ r ≡ choose 5 (explicitOf (table (definitions count (now (words .entry)))) (baseOf c) ∷ explicitOf (table (definitions count (now (words .entry)))) (standInOf c) ∷ explicit (table (definitions count (now (words .entry)))) 0xFFFD ∷ explicit (table (definitions count (now (words .entry)))) 0x3F ∷ []) links ⌝ }
+    ensures { λ r. ⌜ r ≡ choose 5 (laterCandidates (tableOf count (now (words .entry))) c) links ⌝ }
 {
     match explicit_of(words, count, unicode::base_of(c)) {
         Cell::Dots(cell) => Answer {
@@ -101,7 +98,7 @@ fn later_rules(words: &[u32], count: usize, c: u32, links: usize) -> Answer
 // Rules 3 to 9, for a character as it stands after rule 2.
 fn rules_from_3(words: &[u32], count: usize, c: u32) -> Answer
     requires { ⌜ 2 * count ≤ length (now words) ⌝ }
-    ensures { λ r. ⌜ r ≡ rulesFrom3 (table (definitions count (now (words .entry)))) c ⌝ }
+    ensures { λ r. ⌜ r ≡ rulesFrom3 (tableOf count (now (words .entry))) c ⌝ }
 {
     let w = table::walk_from(words, count, c);
     let links = w.links;
@@ -128,7 +125,7 @@ fn rules_from_3(words: &[u32], count: usize, c: u32) -> Answer
 // The answer for a scalar value, by all the rules.
 pub fn answer_of(words: &[u32], count: usize, c: u32) -> Answer
     requires { ⌜ 2 * count ≤ length (now words) ⌝ }
-    ensures { λ r. ⌜ r ≡ lookup (table (definitions count (now (words .entry)))) c ⌝ }
+    ensures { λ r. ⌜ r ≡ lookup (tableOf count (now (words .entry))) c ⌝ }
 {
     if unicode::is_braille(c) {
         return Answer {
@@ -153,14 +150,14 @@ pub fn look_up(words: &[u32], c: u32) -> Looked
     ensures answer { λ r. ⌜ lookedReply r ≡ lookupReply (now (words .entry)) c ⌝ }
     ensures links { λ r. ⌜ LentWhole (lentTable (now (words .entry))) (localOf c) ⌝ }
 {
-    if words.len() < 2048 {
+    if words.len() < TABLE_WORDS {
         return Looked::Refused(Refusal::ShortSlice, 0);
     }
     match table::check_table(words) {
         Checked::FaultAt(pair) => Looked::Refused(Refusal::NotTable, pair),
         Checked::Sound(count) => {
             if unicode::is_scalar(c) {
-                return Looked::Shown(answer_of(words, count, c));
+                return Looked::Answered(answer_of(words, count, c));
             }
             Looked::Refused(Refusal::NotScalar, 0)
         }
@@ -184,8 +181,8 @@ fn first_no_scalar(characters: &[u32]) -> NoScalar
 // Fills both buffers, a cell and a rule for each character.
 fn fill(words: &[u32], count: usize, characters: &[u32], cells: &mut [u8], rules: &mut [u8])
     requires { ⌜ (2 * count ≤ length (now words)) × (length (now characters) ≤ length (now cells)) × (length (now characters) ≤ length (now rules)) ⌝ }
-    ensures cells { λ r. ⌜ now (cells .exit) ≡ over (map (λ c. lookup (table (definitions count (now (words .entry)))) c .cell) (now (characters .entry))) (now (cells .entry)) ⌝ }
-    ensures rules { λ r. ⌜ now (rules .exit) ≡ over (map (λ c. lookup (table (definitions count (now (words .entry)))) c .rule) (now (characters .entry))) (now (rules .entry)) ⌝ }
+    ensures cells { λ r. ⌜ now (cells .exit) ≡ over (map (λ c. lookup (tableOf count (now (words .entry))) c .cell) (now (characters .entry))) (now (cells .entry)) ⌝ }
+    ensures rules { λ r. ⌜ now (rules .exit) ≡ over (map (λ c. lookup (tableOf count (now (words .entry))) c .rule) (now (characters .entry))) (now (rules .entry)) ⌝ }
 {
     let mut i = 0;
     while i < characters.len() {
@@ -197,27 +194,25 @@ fn fill(words: &[u32], count: usize, characters: &[u32], cells: &mut [u8], rules
 }
 
 // The page call: any slices.
-pub fn page(words: &[u32], characters: &[u32], cells: &mut [u8], rules: &mut [u8]) -> Paged
-    ensures answer { λ r. ⌜ pagedReply r ≡ pageReply (pagePlan (now (words .entry)) (now (characters .entry)) (length (now (cells .entry))) (length (now (rules .entry)))) ⌝ }
-    ensures cells { λ r. ⌜ now (cells .exit) ≡ pageCells (pagePlan (now (words .entry)) (now (characters .entry)) (length (now (cells .entry))) (length (now (rules .entry)))) (now (characters .entry)) (now (cells .entry)) ⌝ }
-    ensures rules { λ r. ⌜ now (rules .exit) ≡ pageRules (pagePlan (now (words .entry)) (now (characters .entry)) (length (now (cells .entry))) (length (now (rules .entry)))) (now (characters .entry)) (now (rules .entry)) ⌝ }
+pub fn page(words: &[u32], characters: &[u32], cells: &mut [u8], rules: &mut [u8]) -> Filling
+    ensures { λ r. ⌜ Pages (λ reply. reply) (pagePlan (now (words .entry)) (now (characters .entry)) (length (now (cells .entry))) (length (now (rules .entry)))) (now (characters .entry)) (now (cells .entry)) (now (rules .entry)) (fillingReply r) (now (cells .exit)) (now (rules .exit)) ⌝ }
 {
-    if words.len() < 2048 {
-        return Paged::Refused(Refusal::ShortSlice, 0);
+    if words.len() < TABLE_WORDS {
+        return Filling::Refused(Refusal::ShortSlice, 0);
     }
     if cells.len() < characters.len() {
-        return Paged::Refused(Refusal::ShortSlice, 0);
+        return Filling::Refused(Refusal::ShortSlice, 0);
     }
     if rules.len() < characters.len() {
-        return Paged::Refused(Refusal::ShortSlice, 0);
+        return Filling::Refused(Refusal::ShortSlice, 0);
     }
     match table::check_table(words) {
-        Checked::FaultAt(pair) => Paged::Refused(Refusal::NotTable, pair),
+        Checked::FaultAt(pair) => Filling::Refused(Refusal::NotTable, pair),
         Checked::Sound(count) => match first_no_scalar(characters) {
-            NoScalar::At(i) => Paged::Refused(Refusal::NotScalar, i),
+            NoScalar::At(i) => Filling::Refused(Refusal::NotScalar, i),
             NoScalar::Nowhere => {
                 fill(words, count, characters, cells, rules);
-                Paged::Filled
+                Filling::Filled
             }
         },
     }

@@ -1,36 +1,29 @@
 -- What operands answer is in range: a character is a scalar value, dots are those of one cell.
 use Prim.Native.Nat.{ℕ, suc, _+_, _-_, _*_, _/_, _%_, _^_, _<_}
-use mathlib.Core.Path.{_≡_, refl}
-use mathlib.Core.Bool.{Bool, true, false, _&&_}
+use mathlib.Core.Path.{_≡_}
+use mathlib.Core.Bool.{Bool, true, _&&_}
 use mathlib.Core.List.{List, [], _∷_}
 use native.Mathlib.Nat.{div-lt-iff-lt-mul, add-div-right, pow-suc}
 use native.Mathlib.Omega.{arith}
-use lib.Dec.{eqb, leb}
-use lib.ListN.{length, getD, drop}
+use lib.Dec.{eqb, leb, lit<}
 use lib.Pow.{pow-pos, pow-add}
 use borrow.Author.Tests.{eqb-true, leb-true, lt-ltb}
-use Rattle.basics.specs.Choice.{pick, ifCharacter}
+use Rattle.basics.specs.Choice.{ifCharacter}
+use Rattle.basics.proofs.Tests.{by-test, either, both}
 use Rattle.basics.specs.declared.Maybe.{Maybe}
 use Rattle.basics.specs.declared.Maybe.the-variants.{Nothing, Character}
-use Rattle.basics.specs.declared.Refusal.the-variants.{BadCharacter}
 use Rattle.unicode.specs.Characters.{isScalar}
-use Rattle.lines.specs.Words.{isBlank, wordAt, bytesOf, isMissing}
-use Rattle.operands.specs.Characters.{numberOf, characterOf, isUnicodeEscape, localByte, byteOf}
+use Rattle.operands.specs.Characters.{characterOf, localByte, byteOf}
 use Rattle.operands.specs.Dots.{raiseBy, raise, raiseInside, ifRaised, endsAt, digitsAt, insideAt, cellAt, dotsAt}
 use Rattle.operands.specs.Operands.{characterAt, dotsFault, dotsOperandAt}
 use Rattle.operands.specs.declared.Raised.{Raised}
 use Rattle.operands.specs.declared.Raised.the-variants.{Not, To}
-use Rattle.operands.specs.declared.Dots.{Dots}
-use Rattle.operands.specs.declared.Dots.the-variants.{Bad, Cell}
+use Rattle.operands.specs.declared.CellRead.{CellRead}
+use Rattle.operands.specs.declared.CellRead.the-variants.{Bad, Read}
 use Rattle.operands.specs.declared.Operand.{Operand}
 use Rattle.operands.specs.declared.Operand.the-variants as O
 use Rattle.operands.specs.declared.DotsOperand.{DotsOperand}
 use Rattle.operands.specs.declared.DotsOperand.the-variants as D
-
--- what holds of either choice, each by its test, holds of the choice
-pub by-test : {A : Type 0} (P : A → Type 0) (b : Bool) {x y : A} → (b ≡ true → P x) → (b ≡ false → P y) → P (pick b x y)
-by-test P true p q = p refl
-by-test P false p q = q refl
 
 -- ---- characters: each answer is a scalar value
 
@@ -44,31 +37,23 @@ OperandInRange (O.Value c after) = isScalar c ≡ true
 
 character-in-range : (w : List ℕ) → CharacterInRange (characterOf w)
 unfolding characterOf
-character-in-range w = by-test CharacterInRange (isScalar (numberOf w)) (λ e. e) (λ e. tt)
+character-in-range w = search (by-test CharacterInRange)
 
 -- a byte is a scalar value
 local-in-range : (n : ℕ) → CharacterInRange (localByte n)
 local-in-range n = by-test CharacterInRange (leb n 255) (λ e. rw (lt-ltb n 0xD800 (omega (arith, leb-true n 255 e)))) (λ e. tt)
 
+if-character : {A : Type 0} (P : A → Type 0) (m : Maybe) {none : A} {some : ℕ → A} → P none → ((c : ℕ) → isScalar c ≡ true → P (some c)) → CharacterInRange m → P (ifCharacter m none some)
+if-character P Nothing n s h = n
+if-character P (Character c) n s h = s c h
+
 byte-in-range : (w : List ℕ) → CharacterInRange (byteOf w)
 unfolding byteOf
-byte-in-range w = by-test CharacterInRange (isUnicodeEscape w) (λ e. tt) (λ e. on (characterOf w))
-  where
-    on : (o : Maybe) → CharacterInRange (ifCharacter o Nothing localByte)
-    on Nothing = tt
-    on (Character n) = local-in-range n
+byte-in-range w = search (either CharacterInRange, if-character CharacterInRange, local-in-range, character-in-range)
 
 pub value-in-range : (byte : Bool) (line : List ℕ) (at : ℕ) → OperandInRange (characterAt byte line at)
 unfolding characterAt
-value-in-range byte line at =
-    let w = wordAt line at in
-    by-test OperandInRange (isMissing w) (λ e. tt)
-    (λ e. on (pick byte (byteOf (bytesOf line w)) (characterOf (bytesOf line w))) (O.Fault BadCharacter (length line - w .start)) (w .end) tt
-    (by-test CharacterInRange byte (λ e. byte-in-range (bytesOf line w)) (λ e. character-in-range (bytesOf line w))))
-  where
-    on : (o : Maybe) (fault : Operand) (after : ℕ) → OperandInRange fault → CharacterInRange o → OperandInRange (ifCharacter o fault (λ c. O.Value c after))
-    on Nothing fault after f h = f
-    on (Character c) fault after f h = h
+value-in-range byte line at = search (either OperandInRange, if-character OperandInRange, either CharacterInRange, byte-in-range, character-in-range)
 
 -- ---- dots: each answer is a cell
 
@@ -76,13 +61,13 @@ abbrev RaisedInRange : Raised → Type 0
 RaisedInRange Not = Unit
 RaisedInRange (To cell) = cell < 256
 
-abbrev CellInRange : Dots → Type 0
+abbrev CellInRange : CellRead → Type 0
 CellInRange Bad = Unit
-CellInRange (Cell cell after) = cell < 256
+CellInRange (Read cell after) = cell < 256
 
 abbrev pub DotsInRange : DotsOperand → Type 0
 DotsInRange (D.Fault refusal left) = Unit
-DotsInRange (D.Cell cell after) = cell < 256
+DotsInRange (D.Value cell after) = cell < 256
 
 -- a dot that is not up has room below an even number of its weight
 room-below : (cell weight m : ℕ) → 0 < weight → cell < m * 2 * weight → cell / weight % 2 ≡ 0 → cell + weight < m * 2 * weight
@@ -103,59 +88,44 @@ raise-in-range : (cell b : ℕ) → cell < 256 → RaisedInRange (raise cell b)
 unfolding raise
 raise-in-range cell b small =
     by-test RaisedInRange (leb 49 b && leb b 56)
-    (λ e. raise-by-in-range cell (b - 49) small (omega (arith, leb-true b 56 (second (leb 49 b) (leb b 56) e))))
+    (λ e. raise-by-in-range cell (b - 49) small (omega (arith, leb-true b 56 (both (leb 49 b) (leb b 56) e .1))))
     (λ e. tt)
-  where
-    second : (s t : Bool) → (s && t) ≡ true → t ≡ true
-    second true t e = e
-    second false t e = cc
 
 raise-inside-in-range : (cell b : ℕ) → cell < 256 → RaisedInRange (raiseInside cell b)
 unfolding raiseInside
-raise-inside-in-range cell b small = by-test RaisedInRange (isBlank b) (λ e. small) (λ e. raise-in-range cell b small)
+raise-inside-in-range cell b small = search (either RaisedInRange, raise-in-range)
 
-if-raised : (o : Raised) (more : ℕ → Dots) → RaisedInRange o → ((cell : ℕ) → cell < 256 → CellInRange (more cell)) → CellInRange (ifRaised o more)
+if-raised : (o : Raised) (more : ℕ → CellRead) → RaisedInRange o → ((cell : ℕ) → cell < 256 → CellInRange (more cell)) → CellInRange (ifRaised o more)
 if-raised Not more h k = tt
 if-raised (To cell) more h k = k cell h
 
 ends-in-range : (bs : List ℕ) (i cell : ℕ) → cell < 256 → CellInRange (endsAt bs i cell)
 unfolding endsAt
 ends-in-range [] i cell small = small
-ends-in-range (b ∷ bs) i cell small = by-test CellInRange (isBlank b) (λ e. small) (λ e. tt)
+ends-in-range (b ∷ bs) i cell small = search (either CellInRange)
 
 digits-in-range : (bs : List ℕ) (i cell : ℕ) → cell < 256 → CellInRange (digitsAt bs i cell)
 unfolding digitsAt
 digits-in-range [] i cell small = small
-digits-in-range (b ∷ bs) i cell small =
-    by-test CellInRange (isBlank b) (λ e. small)
-    (λ e. if-raised (raise cell b) (λ n. digitsAt bs (i + 1) n) (raise-in-range cell b small) (λ n l. digits-in-range bs (i + 1) n l))
+digits-in-range (b ∷ bs) i cell small = search (either CellInRange, if-raised, raise-in-range, digits-in-range bs)
 
 inside-in-range : (bs : List ℕ) (i cell : ℕ) → cell < 256 → CellInRange (insideAt bs i cell)
 unfolding insideAt
 inside-in-range [] i cell small = tt
-inside-in-range (b ∷ bs) i cell small =
-    by-test CellInRange (eqb b 41) (λ e. ends-in-range bs (i + 1) cell small)
-    (λ e. if-raised (raiseInside cell b) (λ n. insideAt bs (i + 1) n) (raise-inside-in-range cell b small) (λ n l. inside-in-range bs (i + 1) n l))
+inside-in-range (b ∷ bs) i cell small = search (either CellInRange, ends-in-range, if-raised, raise-inside-in-range, inside-in-range bs)
 
 cell-in-range : (line : List ℕ) (at : ℕ) → CellInRange (cellAt line at)
 unfolding cellAt
-cell-in-range line at =
-    by-test CellInRange (eqb (getD line at 0) 48) (λ e. ends-in-range (drop (at + 1) line) (at + 1) 0 (omega arith))
-    (λ e. digits-in-range (drop at line) at 0 (omega arith))
+cell-in-range line at = search (either CellInRange, ends-in-range, digits-in-range, lit<)
 
 read-in-range : (line : List ℕ) (at : ℕ) → CellInRange (dotsAt line at)
 unfolding dotsAt
-read-in-range line at =
-    by-test CellInRange (eqb (getD line at 0) 40) (λ e. inside-in-range (drop (at + 1) line) (at + 1) 0 (omega arith)) (λ e. cell-in-range line at)
+read-in-range line at = search (either CellInRange, inside-in-range, cell-in-range, lit<)
+
+fault-in-range : (o : CellRead) (left : ℕ) → CellInRange o → DotsInRange (dotsFault o left)
+fault-in-range Bad left h = tt
+fault-in-range (Read cell after) left h = h
 
 pub dots-in-range : (parentheses : Bool) (line : List ℕ) (at : ℕ) → DotsInRange (dotsOperandAt parentheses line at)
 unfolding dotsOperandAt
-dots-in-range parentheses line at =
-    let start = wordAt line at .start in
-    by-test DotsInRange (isMissing (wordAt line at)) (λ e. tt)
-    (λ e. on (pick parentheses (dotsAt line start) (cellAt line start)) (length line - start)
-    (by-test CellInRange parentheses (λ e. read-in-range line start) (λ e. cell-in-range line start)))
-  where
-    on : (o : Dots) (left : ℕ) → CellInRange o → DotsInRange (dotsFault o left)
-    on Bad left h = tt
-    on (Cell cell after) left h = h
+dots-in-range parentheses line at = search (either DotsInRange, fault-in-range, either CellInRange, read-in-range, cell-in-range)

@@ -1,53 +1,64 @@
--- What an operand is, by what the calls on its word answered.
+-- What an operand is, by what the calls on its word answered, and each way on from it.
 use Prim.Native.Nat.{ℕ, _-_, _≤_}
-use mathlib.Core.Path.{_≡_, subst}
+use mathlib.Core.Path.{_≡_}
 use mathlib.Core.Bool.{Bool}
 use mathlib.Core.List.{List}
 use lib.ListN.{length}
-use borrow.Author.Tests.{eq-eqb, ne-eqb}
 use Rattle.basics.specs.Choice.{pick}
-use Rattle.basics.specs.declared.Maybe.{Maybe}
-use Rattle.basics.specs.declared.Maybe.the-variants.{Nothing, Character}
-use Rattle.basics.specs.declared.Refusal.the-variants.{MissingOperand, BadCharacter, BadDots}
+use Rattle.basics.specs.declared.Refusal.{Refusal}
+use Rattle.basics.specs.declared.Refusal.the-variants.{MissingOperand}
 use Rattle.lines.specs.declared.Word.{Word}
-use Rattle.lines.specs.Words.{wordAt, bytesOf}
-use Rattle.operands.specs.Bounds.{CellWithin}
-use Rattle.operands.specs.Characters.{characterOf, byteOf}
+use Rattle.lines.specs.Words.{wordAt, isMissing}
+use Rattle.operands.specs.Internal.{CellWithin, OperandWithin, DotsWithin}
 use Rattle.operands.specs.Dots.{dotsAt, cellAt}
-use Rattle.operands.specs.Operands.{characterAt, dotsOperandAt}
+use Rattle.operands.specs.Operands.{wordOperand, characterAt, dotsFault, dotsOperandAt, ifValue, ifDotsValue}
+use Rattle.operands.specs.declared.Operand.{Operand}
 use Rattle.operands.specs.declared.Operand.the-variants as O
+use Rattle.operands.specs.declared.DotsOperand.{DotsOperand}
 use Rattle.operands.specs.declared.DotsOperand.the-variants as D
-use Rattle.operands.specs.declared.Dots.{Dots}
-use Rattle.operands.specs.declared.Dots.the-variants as C
+use Rattle.operands.specs.declared.CellRead.{CellRead}
+use Rattle.operands.specs.declared.CellRead.the-variants as C
 
--- the position after a cell that was read
-pub cell-within : (r : Dots) (cell after n : ℕ) → CellWithin r n → r ≡ C.Cell cell after → after ≤ n
-cell-within r cell after n h q = subst (λ (x : Dots). CellWithin x n) q h
+-- the position after what was read
+pub cell-within : (r : CellRead) (cell after n : ℕ) → CellWithin r n → r ≡ C.Read cell after → after ≤ n
+cell-within r cell after n h q = rw q at h
 
+pub value-within : (o : Operand) (c after n : ℕ) → OperandWithin o n → o ≡ O.Value c after → after ≤ n
+value-within o c after n h q = rw q at h
+
+pub dots-within : (o : DotsOperand) (cell after n : ℕ) → DotsWithin o n → o ≡ D.Value cell after → after ≤ n
+dots-within o cell after n h q = rw q at h
+
+-- an operand by the word w that a call found
 module _ (kind : Bool) (line : List ℕ) (at : ℕ) (w : Word) (e : w ≡ wordAt line at) where
-  pub character-missing : w .start ≡ w .end → O.Fault MissingOperand 0 ≡ characterAt kind line at
+  pub by-word : {v : Operand} → v ≡ pick (isMissing w) (O.Fault MissingOperand 0) (wordOperand kind line w) → v ≡ characterAt kind line at
   unfolding characterAt
-  character-missing q = rw (← e, eq-eqb _ _ q)
+  by-word q = rw (← e) q
 
-  pub dots-missing : w .start ≡ w .end → D.Fault MissingOperand 0 ≡ dotsOperandAt kind line at
+  pub by-dots-word : {v : DotsOperand} → v ≡ pick (isMissing w) (D.Fault MissingOperand 0) (dotsFault (pick kind (dotsAt line (w .start)) (cellAt line (w .start))) (length line - w .start)) → v ≡ dotsOperandAt kind line at
   unfolding dotsOperandAt
-  dots-missing q = rw (← e, eq-eqb _ _ q)
+  by-dots-word q = rw (← e) q
 
-  module _ (q : w .start ≡ w .end → ⊥) where
-    module _ (r : Maybe) (f : r ≡ pick kind (byteOf (bytesOf line w)) (characterOf (bytesOf line w))) where
-      pub character-refused : r ≡ Nothing → O.Fault BadCharacter (length line - w .start) ≡ characterAt kind line at
-      unfolding characterAt
-      character-refused g = rw (← e, ne-eqb _ _ q, ← f, g)
+-- r is what a call answered of dots, and is k
+pub on-dots : (r o k : CellRead) (left : ℕ) {v : DotsOperand} → r ≡ o → r ≡ k → v ≡ dotsFault k left → v ≡ dotsFault o left
+on-dots r o k left e q h = rw (← e, q) h
 
-      pub character-read : (c : ℕ) → r ≡ Character c → O.Value c (w .end) ≡ characterAt kind line at
-      unfolding characterAt
-      character-read c g = rw (← e, ne-eqb _ _ q, ← f, g)
+-- r is what a call answered of a character or byte operand
+module _ {A : Type 0} (r o : Operand) (bad : Refusal → ℕ → A) (good : ℕ → ℕ → A) (v : A) (e : r ≡ o) where
+  pub value-fault : (refusal : Refusal) (left : ℕ) → r ≡ O.Fault refusal left → v ≡ bad refusal left → v ≡ ifValue o bad good
+  value-fault refusal left q h = rw (← e, q) h
 
-    module _ (r : Dots) (f : r ≡ pick kind (dotsAt line (w .start)) (cellAt line (w .start))) where
-      pub dots-refused : r ≡ C.Bad → D.Fault BadDots (length line - w .start) ≡ dotsOperandAt kind line at
-      unfolding dotsOperandAt
-      dots-refused g = rw (← e, ne-eqb _ _ q, ← f, g)
+  pub value-read : (c after : ℕ) → r ≡ O.Value c after → v ≡ good c after → v ≡ ifValue o bad good
+  value-read c after q h = rw (← e, q) h
 
-      pub dots-read : (cell after : ℕ) → r ≡ C.Cell cell after → D.Cell cell after ≡ dotsOperandAt kind line at
-      unfolding dotsOperandAt
-      dots-read cell after g = rw (← e, ne-eqb _ _ q, ← f, g)
+pub ruleset on-value = (value-fault, value-read)
+
+-- and of a dots or cell operand
+module _ {A : Type 0} (r o : DotsOperand) (bad : Refusal → ℕ → A) (good : ℕ → ℕ → A) (v : A) (e : r ≡ o) where
+  pub dots-value-fault : (refusal : Refusal) (left : ℕ) → r ≡ D.Fault refusal left → v ≡ bad refusal left → v ≡ ifDotsValue o bad good
+  dots-value-fault refusal left q h = rw (← e, q) h
+
+  pub dots-value-read : (cell after : ℕ) → r ≡ D.Value cell after → v ≡ good cell after → v ≡ ifDotsValue o bad good
+  dots-value-read cell after q h = rw (← e, q) h
+
+pub ruleset on-dots-value = (dots-value-fault, dots-value-read)

@@ -1,6 +1,6 @@
 -- The character operand and the byte operand: a whole word to a character. Number 0x110000 stands for none, and is no scalar value.
 use Prim.Native.Nat.{ℕ, _+_, _-_, _*_, _%_}
-use mathlib.Core.Bool.{Bool, true, false, _&&_, _||_}
+use mathlib.Core.Bool.{Bool, _&&_, _||_}
 use mathlib.Core.List.{List, [], _∷_}
 use lib.ListN.{length, getD, drop}
 use lib.Dec.{ltb, leb, eqb}
@@ -69,8 +69,8 @@ radixOf b n =
     0)))
 
 -- the number of a whole word
-unfoldable pub numberOf : List ℕ → ℕ
-numberOf w =
+unfoldable pub wordNumber : List ℕ → ℕ
+wordNumber w =
     let digits : ℕ = digitsFrom (radixOf (getD w 1 0) (length w)) (drop 2 w) 0 in
     pick (eqb (getD w 0 0) backslash)
     (pick (ltb (length w) 3) (shortOf (getD w 1 0)) digits)
@@ -78,7 +78,7 @@ numberOf w =
 
 -- the result must be a Unicode scalar value
 unfoldable pub characterOf : List ℕ → Maybe
-characterOf w = pick (isScalar (numberOf w)) (Character (numberOf w)) Nothing
+characterOf w = pick (isScalar (wordNumber w)) (Character (wordNumber w)) Nothing
 
 -- \u and \U may not stand in a byte operand
 abbrev pub isUnicodeEscape : List ℕ → Bool

@@ -1,4 +1,4 @@
 pub mod Characters
 pub mod Dots
 pub mod Operands
-pub mod Bounds
+pub mod Internal

@@ -1,10 +1,9 @@
 -- An operand is the next word, or begins where it begins. None is number 6, at the line's end; a bad one is 7 or 8, at its first byte.
-use Prim.Native.Nat.{ℕ, _-_, _≤_}
-use mathlib.Core.Bool.{Bool, true, false}
+use Prim.Native.Nat.{ℕ, _-_}
+use mathlib.Core.Bool.{Bool}
 use mathlib.Core.List.{List}
 use lib.ListN.{length}
 use Rattle.basics.specs.Choice.{pick, ifCharacter}
-use Rattle.basics.specs.declared.Maybe.{Maybe}
 use Rattle.basics.specs.declared.Refusal.{Refusal}
 use Rattle.basics.specs.declared.Refusal.the-variants.{MissingOperand, BadCharacter, BadDots}
 use Rattle.lines.specs.declared.Word.{Word}
@@ -15,8 +14,8 @@ use Rattle.operands.specs.declared.Operand.{Operand}
 use Rattle.operands.specs.declared.Operand.the-variants as O
 use Rattle.operands.specs.declared.DotsOperand.{DotsOperand}
 use Rattle.operands.specs.declared.DotsOperand.the-variants as D
-use Rattle.operands.specs.declared.Dots.{Dots}
-use Rattle.operands.specs.declared.Dots.the-variants.{Bad, Cell}
+use Rattle.operands.specs.declared.CellRead.{CellRead}
+use Rattle.operands.specs.declared.CellRead.the-variants.{Bad, Read}
 
 -- the next word as a character operand, or, where `byte` holds, as a byte operand
 abbrev pub wordOperand : Bool → List ℕ → Word → Operand
@@ -30,15 +29,15 @@ characterAt byte line at =
     let w : Word = wordAt line at in
     pick (isMissing w) (O.Fault MissingOperand 0) (wordOperand byte line w)
 
-abbrev pub dotsFault : Dots → ℕ → DotsOperand
+abbrev pub dotsFault : CellRead → ℕ → DotsOperand
 dotsFault Bad left = D.Fault BadDots left
-dotsFault (Cell cell after) left = D.Cell cell after
+dotsFault (Read cell after) left = D.Value cell after
 
 -- what begins at the next word as a dots operand, or, where `parentheses` does not hold, as a cell operand
 unfoldable pub dotsOperandAt : Bool → List ℕ → ℕ → DotsOperand
 dotsOperandAt parentheses line at =
     let w : Word = wordAt line at in
-    let read : Dots = pick parentheses (dotsAt line (w .start)) (cellAt line (w .start)) in
+    let read : CellRead = pick parentheses (dotsAt line (w .start)) (cellAt line (w .start)) in
     pick (isMissing w) (D.Fault MissingOperand 0) (dotsFault read (length line - w .start))
 
 -- what follows from an operand, and from its fault
@@ -46,6 +45,6 @@ abbrev pub ifValue : {A : Type 0} → Operand → (Refusal → ℕ → A) → (�
 ifValue (O.Fault refusal left) bad good = bad refusal left
 ifValue (O.Value c after) bad good = good c after
 
-abbrev pub ifCell : {A : Type 0} → DotsOperand → (Refusal → ℕ → A) → (ℕ → ℕ → A) → A
-ifCell (D.Fault refusal left) bad good = bad refusal left
-ifCell (D.Cell cell after) bad good = good cell after
+abbrev pub ifDotsValue : {A : Type 0} → DotsOperand → (Refusal → ℕ → A) → (ℕ → ℕ → A) → A
+ifDotsValue (D.Fault refusal left) bad good = bad refusal left
+ifDotsValue (D.Value cell after) bad good = good cell after

@@ -1,16 +1,17 @@
 // The operands of a directive: a character, a byte, dots, a cell.
 use basics::Maybe;
 use basics::Refusal;
+use basics::widen;
 use lines::is_blank;
 use lines::next_word;
 ghost use mathlib.Core.Path.{_≡_};
 ghost use Prim.Native.Nat.{_+_, _*_, _^_, _%_, _/_, _≤_, _<_};
 ghost use lib.ListN.{length, drop};
-ghost use Rattle.operands.specs.Characters.{digitOf, withDigit, digitsFrom, plainOf, shortOf, radixOf, numberOf, characterOf, localByte, isUnicodeEscape, byteOf};
+ghost use Rattle.operands.specs.Characters.{noNumber, digitOf, withDigit, digitsFrom, plainOf, shortOf, radixOf, wordNumber, characterOf, localByte, isUnicodeEscape, byteOf};
 ghost use Rattle.basics.specs.Choice.{pick};
 ghost use Rattle.operands.specs.Dots.{raiseBy, raise, raiseInside, endsAt, digitsAt, insideAt, cellAt, dotsAt};
 ghost use Rattle.operands.specs.Operands.{characterAt, dotsOperandAt};
-ghost use Rattle.operands.specs.Bounds.{Digits, CellWithin, OperandWithin, DotsWithin};
+ghost use Rattle.operands.specs.Internal.{Digits, CellWithin, OperandWithin, DotsWithin};
 
 // A character or byte operand: its character and the position after it; or its fault, and the number of bytes from the
 // fault's place to the line's end.
@@ -22,13 +23,13 @@ pub enum Operand {
 // A dots or cell operand, the same way.
 pub enum DotsOperand {
     Fault(Refusal, usize),
-    Cell(u8, usize),
+    Value(u8, usize),
 }
 
 // Dots from a position on: the cell and the position after them, or bad dots.
-pub enum Dots {
+pub enum CellRead {
     Bad,
-    Cell(u8, usize),
+    Read(u8, usize),
 }
 
 // A cell with one dot more, or none where that dot is up already or is no dot.
@@ -67,8 +68,8 @@ fn digit_of(b: u8) -> u32
 
 // `n` with the digit `d` behind it. Once there is no number, there is none from there on.
 fn with_digit(radix: u32, n: u32, d: u32) -> u32
-    requires { ⌜ (radix ≤ 16) × (n ≤ 0x110000) ⌝ }
-    ensures { λ r. ⌜ (r ≡ withDigit radix n d) × (r ≤ 0x110000) ⌝ }
+    requires { ⌜ (radix ≤ 16) × (n ≤ noNumber) ⌝ }
+    ensures { λ r. ⌜ (r ≡ withDigit radix n d) × (r ≤ noNumber) ⌝ }
 {
     if radix <= d {
         return NO_NUMBER;
@@ -89,12 +90,6 @@ fn digits_of(w: &[u8], radix: u32) -> u32
         i += 1;
     }
     n
-}
-
-fn widen(b: u8) -> u32
-    ensures { λ r. ⌜ r ≡ b ⌝ }
-{
-    b as u32
 }
 
 // The character of two, three and four bytes of UTF-8.
@@ -186,8 +181,8 @@ fn radix_of(b: u8, n: usize) -> u32
 }
 
 // The number of a whole word.
-fn number_of(w: &[u8]) -> u32
-    ensures { λ r. ⌜ r ≡ numberOf (now (w .entry)) ⌝ }
+fn word_number(w: &[u8]) -> u32
+    ensures { λ r. ⌜ r ≡ wordNumber (now (w .entry)) ⌝ }
 {
     let n = w.len();
     if n == 0 {
@@ -209,7 +204,7 @@ fn number_of(w: &[u8]) -> u32
 pub fn character_of(w: &[u8]) -> Maybe
     ensures { λ r. ⌜ r ≡ characterOf (now (w .entry)) ⌝ }
 {
-    let n = number_of(w);
+    let n = word_number(w);
     if unicode::is_scalar(n) {
         return Maybe::Character(n);
     }
@@ -322,22 +317,22 @@ fn raise_inside(cell: u8, b: u8) -> Raised
 }
 
 // The operand ends at `i`, where whitespace or the line's end has to be.
-fn ends_at(line: &[u8], i: usize, cell: u8) -> Dots
+fn ends_at(line: &[u8], i: usize, cell: u8) -> CellRead
     requires { ⌜ i ≤ length (now line) ⌝ }
     ensures { λ r. ⌜ r ≡ endsAt (drop i (now (line .entry))) i cell ⌝ }
     ensures { λ r. ⌜ CellWithin r (length (now (line .entry))) ⌝ }
 {
     if i < line.len() {
         if is_blank(line[i]) {
-            return Dots::Cell(cell, i);
+            return CellRead::Read(cell, i);
         }
-        return Dots::Bad;
+        return CellRead::Bad;
     }
-    Dots::Cell(cell, i)
+    CellRead::Read(cell, i)
 }
 
 // Digits from `at` on, to whitespace or the line's end.
-fn digits_at(line: &[u8], at: usize) -> Dots
+fn digits_at(line: &[u8], at: usize) -> CellRead
     requires { ⌜ at ≤ length (now line) ⌝ }
     ensures { λ r. ⌜ r ≡ digitsAt (drop at (now (line .entry))) at 0 ⌝ }
     ensures { λ r. ⌜ CellWithin r (length (now (line .entry))) ⌝ }
@@ -347,19 +342,19 @@ fn digits_at(line: &[u8], at: usize) -> Dots
     while i < line.len() {
         let b = line[i];
         if is_blank(b) {
-            return Dots::Cell(cell, i);
+            return CellRead::Read(cell, i);
         }
         let Raised::To(more) = raise_dot(cell, b) else {
-            return Dots::Bad;
+            return CellRead::Bad;
         };
         cell = more;
         i += 1;
     }
-    Dots::Cell(cell, i)
+    CellRead::Read(cell, i)
 }
 
 // Digits and whitespace from `at` on, to the closing parenthesis.
-fn inside_at(line: &[u8], at: usize) -> Dots
+fn inside_at(line: &[u8], at: usize) -> CellRead
     requires { ⌜ at ≤ length (now line) ⌝ }
     ensures { λ r. ⌜ r ≡ insideAt (drop at (now (line .entry))) at 0 ⌝ }
     ensures { λ r. ⌜ CellWithin r (length (now (line .entry))) ⌝ }
@@ -372,16 +367,16 @@ fn inside_at(line: &[u8], at: usize) -> Dots
             return ends_at(line, i + 1, cell);
         }
         let Raised::To(more) = raise_inside(cell, b) else {
-            return Dots::Bad;
+            return CellRead::Bad;
         };
         cell = more;
         i += 1;
     }
-    Dots::Bad
+    CellRead::Bad
 }
 
 // A cell whose first byte stands at `at`.
-fn cell_at(line: &[u8], at: usize) -> Dots
+fn cell_at(line: &[u8], at: usize) -> CellRead
     requires { ⌜ at < length (now line) ⌝ }
     ensures { λ r. ⌜ r ≡ cellAt (now (line .entry)) at ⌝ }
     ensures { λ r. ⌜ CellWithin r (length (now (line .entry))) ⌝ }
@@ -393,7 +388,7 @@ fn cell_at(line: &[u8], at: usize) -> Dots
 }
 
 // Dots whose first byte stands at `at`; in parentheses only where `parentheses` holds.
-fn dots_at(line: &[u8], at: usize, parentheses: bool) -> Dots
+fn dots_at(line: &[u8], at: usize, parentheses: bool) -> CellRead
     requires { ⌜ at < length (now line) ⌝ }
     ensures { λ r. ⌜ r ≡ pick parentheses (dotsAt (now (line .entry)) at) (cellAt (now (line .entry)) at) ⌝ }
     ensures { λ r. ⌜ CellWithin r (length (now (line .entry))) ⌝ }
@@ -419,7 +414,7 @@ pub fn dots_operand_at(line: &[u8], at: usize, parentheses: bool) -> DotsOperand
         return DotsOperand::Fault(Refusal::MissingOperand, 0);
     }
     match dots_at(line, start, parentheses) {
-        Dots::Bad => DotsOperand::Fault(Refusal::BadDots, line.len() - start),
-        Dots::Cell(cell, after) => DotsOperand::Cell(cell, after),
+        CellRead::Bad => DotsOperand::Fault(Refusal::BadDots, line.len() - start),
+        CellRead::Read(cell, after) => DotsOperand::Value(cell, after),
     }
 }

@@ -1,23 +1,25 @@
 -- How a line grows.
-use Prim.Native.Nat.{ℕ, zero, suc, _+_, _-_, _/_, _%_, _≤_, _<_}
-use mathlib.Core.Path.{_≡_, refl, _∙_}
+use Prim.Native.Nat.{ℕ, zero, suc, _+_, _-_, _*_, _/_, _%_, _^_, _≤_, _<_}
+use mathlib.Core.Path.{_≡_, refl, ap, _∙_}
 use mathlib.Core.List.{List, [], _∷_, _++_, append-nil, append-assoc}
-use native.Mathlib.Nat.{mod-eq-of-lt}
-use native.Mathlib.Numerals.{add-one}
+use native.Mathlib.Nat.{mod-eq-of-lt, pow-suc, one-le-pow, pow-le-pow-right}
+use native.Mathlib.Numerals.{add-one, unary-clauses}
 use native.Mathlib.Omega.{arith}
-use borrow.Author.Tests.{lt-ltb, le-ltb}
+use borrow.Author.Tests.{lt-ltb, le-ltb, leb-true, leb-false}
 use lib.ListN.{length, take, getD, set, replicate, length-append}
 use lib.Seq.{take-suc, take-suc-set, take-all}
-use lib.Dec.{ltb}
-use Rattle.basics.specs.Choice.{pick}
+use mathlib.Core.Bool.{Bool, true, false}
+use lib.Dec.{leb}
 use Rattle.basics.specs.Refusals.{numberOf}
 use Rattle.basics.specs.Ascii.{ascii}
 use Rattle.basics.specs.declared.Refusal.{Refusal}
-use Rattle.compiler.specs.Compile.{compiledReply}
-use Rattle.compiler.specs.declared.Compiled.{Compiled}
-use Rattle.compiler.specs.declared.Compiled.the-variants.{Accepted, Refused}
+use Rattle.lines.specs.Texts.{compiledReply}
+use Rattle.lines.specs.declared.Compiled.{Compiled}
+use Rattle.lines.specs.declared.Compiled.the-variants.{Accepted, Refused}
 use Rattle.report.specs.declared.Line.{Line}
-use Rattle.report.specs.Report.{decimalWithin, decimal, textOf, reportOf, Grown}
+use Rattle.report.specs.Report.{decimalWithin, decimal, textOf, reportOf}
+use Rattle.report.specs.Internal.{Grown}
+use Rattle.io.specs.Digits.{digits, Fewest}
 
 -- one byte stored behind the text
 pub grown-byte :
@@ -49,37 +51,41 @@ module _ (line : Line) (t : List ℕ) where
       → Grown line t more
   text-end more i h k n e = record { text = e ∙ rw (take-all i t h); count = omega arith }
 
--- so many digits by one less
-digits-more :
-    (room n : ℕ) → 1 ≤ room
-    → decimalWithin room n ≡ pick (ltb n 10) ((48 + n) ∷ []) (decimalWithin (room - 1) (n / 10) ++ ((48 + n % 10) ∷ []))
+-- ---- numbers
+
+-- the fewest digits that hold a number are those of its decimal form
+digits-within : (k room n : ℕ) → k ≤ room → Fewest 10 1 n k → digits 10 k n ≡ decimalWithin room n
 unfolding decimalWithin
-digits-more zero n h = absurd (omega arith)
-digits-more (suc room) n h =
-    let e : suc room - 1 ≡ room = omega arith in
-    rw e
+digits-within zero room n h f = absurd (omega (arith, f .0))
+digits-within (suc k) zero n h f = absurd (omega arith)
+digits-within (suc zero) (suc room) n h f =
+    let small : n < 10 = f .1 in
+    rw (lt-ltb n 10 small, mod-eq-of-lt small, lt-ltb n 10 small)
+digits-within (suc (suc k)) (suc room) n h f =
+    let more : 10 ^ k * 10 ≤ n = simp unary-clauses at (f .2 (omega arith)) in
+    let size : 10 ^ suc (suc k) ≡ 10 ^ suc k * 10 = pow-suc 10 (suc k) in
+    let some : 1 ≤ 10 ^ k = one-le-pow k 10 (omega arith) in
+    let last : n % 10 < 10 = omega arith in
+    let front = digits-within (suc k) room (n / 10) (omega arith) (omega arith, omega (arith, f .1), λ g. simp unary-clauses (omega arith)) in
+    rw (le-ltb n 10 (omega arith), lt-ltb (n % 10) 10 last) (ap (λ (d : List ℕ). d ++ ((48 + n % 10) ∷ [])) front)
 
--- a number, its last digit behind what stands before it
-module _ (line : Line) (room n : ℕ) (r : Line) (some : 1 ≤ room) where
-  pub number-small : n < 10 → Grown line ((48 + n % 10) ∷ []) r → Grown line (decimalWithin room n) r × (r .length ≤ line .length + room)
-  number-small h g =
-      let e : decimalWithin room n ≡ (48 + n) ∷ [] = digits-more room n some ∙ rw (lt-ltb n 10 h) in
-      (rw (e, ← mod-eq-of-lt h) g, omega arith)
+-- 20 of them hold any number of 64 bits
+pub digits-few : (n k : ℕ) → n < 0x10000000000000000 → Fewest 10 1 n k → k ≤ 20
+digits-few n k small f = go (leb k 20) refl
+  where
+    go : (b : Bool) → leb k 20 ≡ b → k ≤ 20
+    go true p = leb-true k 20 p
+    go false p =
+        let more : 20 < k = leb-false k 20 p in
+        let up : 20 ≤ k - 1 = omega arith in
+        let large : 10 ^ 20 ≤ 10 ^ (k - 1) = pow-le-pow-right {n = 10} (omega arith) up in
+        absurd (omega (arith, f .2 (omega arith)))
 
-  pub number-last : 10 ≤ n → room ≤ 1 → Grown line ((48 + n % 10) ∷ []) r → Grown line (decimalWithin room n) r × (r .length ≤ line .length + room)
-  unfolding decimalWithin
-  number-last h k g =
-      let q : room ≡ 1 = omega arith in
-      let e : decimalWithin room n ≡ (48 + n % 10) ∷ [] = rw (q, le-ltb n 10 h) in
-      (rw e g, omega arith)
-
-  pub number-more :
-      (m : Line) → 10 ≤ n → Grown line (decimalWithin (room - 1) (n / 10)) m → m .length ≤ line .length + (room - 1)
-      → Grown m ((48 + n % 10) ∷ []) r → Grown line (decimalWithin room n) r × (r .length ≤ line .length + room)
-  number-more m h f w g =
-      let e : decimalWithin room n ≡ decimalWithin (room - 1) (n / 10) ++ ((48 + n % 10) ∷ []) =
-      digits-more room n some ∙ rw (le-ltb n 10 h) in
-      (rw e (grown-grown f g), omega arith)
+pub number-grown : (line r : Line) (n k : ℕ) {out : List ℕ} → n < 0x10000000000000000 → Fewest 10 1 n k → out ≡ digits 10 k n → length out ≡ k → Grown line out r
+    → Grown line (decimal n) r × (r .length ≤ line .length + 20)
+number-grown line r n k small f e size g =
+    let few = digits-few n k small f in
+    (rw (e ∙ digits-within k 20 n few f) at g, omega (arith, g .count))
 
 -- the whole line, its parts one after another
 module _ (answer : Compiled) where

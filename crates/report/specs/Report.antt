@@ -1,9 +1,7 @@
 -- What the program writes: `accepted N`, or `refused N line L`, and one LF after.
-use Prim.Native.Nat.{ℕ, zero, suc, _+_, _/_, _%_, _≤_}
-use mathlib.Core.Path.{_≡_}
-use mathlib.Core.Bool.{Bool, true, false}
+use Prim.Native.Nat.{ℕ, zero, suc, _+_, _/_, _%_}
 use mathlib.Core.List.{List, [], _∷_, _++_}
-use lib.ListN.{length, take}
+use lib.ListN.{take}
 use lib.Dec.{ltb}
 use Rattle.basics.specs.Ascii.{ascii}
 use Rattle.basics.specs.Choice.{pick}
@@ -28,8 +26,3 @@ reportOf (refused number line) = ascii "refused " ++ (decimal number ++ (ascii "
 -- the bytes of a line so far
 abbrev pub textOf : Line → List ℕ
 textOf l = take (l .length) (l .bytes)
-
--- a line with a text more
-pub record Grown (line : Line) (more : List ℕ) (r : Line) : Type 0 where
-  pub text : textOf r ≡ textOf line ++ more
-  pub count : r .length ≡ line .length + length more

@@ -1,11 +1,12 @@
 // The line that the program writes for a text table.
-use compiler::Compiled;
+use lines::Compiled;
 ghost use mathlib.Core.Path.{_≡_};
 ghost use mathlib.Core.List.{[], _∷_, _++_};
 ghost use Prim.Native.Nat.{_+_, _≤_, _<_};
 ghost use lib.ListN.{length};
-ghost use Rattle.compiler.specs.Compile.{compiledReply};
-ghost use Rattle.report.specs.Report.{decimalWithin, textOf, reportOf, Grown};
+ghost use Rattle.lines.specs.Texts.{compiledReply};
+ghost use Rattle.report.specs.Report.{decimal, textOf, reportOf};
+ghost use Rattle.report.specs.Internal.{Grown};
 
 // Bytes of a line so far: the first `length` of them.
 pub struct Line {
@@ -41,20 +42,15 @@ fn with_text(line: Line, text: &[u8]) -> Line
     more
 }
 
-// A line with a number more, in decimal, of at most `room` digits.
-fn with_number(line: Line, n: u64, room: usize) -> Line
-    requires { ⌜ (1 ≤ room) × (line .length + room ≤ 64) ⌝ }
-    ensures { λ r. ⌜ Grown line (decimalWithin room n) r ⌝ }
-    ensures { λ r. ⌜ r .length ≤ line .length + room ⌝ }
+// A line with a number more, in decimal.
+fn with_number(line: Line, n: u64) -> Line
+    requires { ⌜ line .length + 20 ≤ 64 ⌝ }
+    ensures { λ r. ⌜ Grown line (decimal n) r ⌝ }
+    ensures { λ r. ⌜ r .length ≤ line .length + 20 ⌝ }
 {
-    let last = (n % 10) as u8;
-    if n < 10 {
-        return with_byte(line, 48 + last);
-    }
-    if room <= 1 {
-        return with_byte(line, 48 + last);
-    }
-    with_byte(with_number(line, n / 10, room - 1), 48 + last)
+    let mut digits = [0u8; 20];
+    let k = io::decimal(n, &mut digits);
+    with_text(line, &digits[..k])
 }
 
 // The line of an answer of the compile call.
@@ -68,13 +64,13 @@ pub fn report(answer: Compiled) -> Line
     };
     match answer {
         Compiled::Accepted(count) => {
-            let line = with_number(with_text(empty, b"accepted "), count as u64, 20);
+            let line = with_number(with_text(empty, b"accepted "), count as u64);
             with_byte(line, b'\n')
         }
         Compiled::Refused(refusal, place) => {
             let number = basics::number_of(refusal) as u64;
-            let front = with_number(with_text(empty, b"refused "), number, 20);
-            let all = with_number(with_text(front, b" line "), place as u64, 20);
+            let front = with_number(with_text(empty, b"refused "), number);
+            let all = with_number(with_text(front, b" line "), place as u64);
             with_byte(all, b'\n')
         }
     }

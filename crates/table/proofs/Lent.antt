@@ -8,23 +8,23 @@ use Rattle.basics.proofs.Tests.{told}
 use Rattle.basics.specs.Refusals.{answered, refused}
 use Rattle.table.specs.declared.Checked.{Checked}
 use Rattle.table.specs.declared.Checked.the-variants.{Sound, FaultAt}
-use Rattle.table.specs.Words.{definitions}
+use Rattle.table.specs.Words.{tableWords, definitions}
 use Rattle.table.specs.Check.{checkOf, lentTable}
 use Rattle.table.proofs.Readback.{lent}
 
 module _ (ws : List ℕ) where
-  pub lent-short : length ws < 2048 → lentTable ws ≡ refused 2 0
+  pub lent-short : length ws < tableWords → lentTable ws ≡ refused 2 0
   unfolding lentTable
-  lent-short h = rw (lt-ltb (length ws) 2048 h)
+  lent-short h = rw (lt-ltb (length ws) tableWords h)
 
-  pub lent-fault : (pair : ℕ) {r : Checked} → 2048 ≤ length ws → r ≡ checkOf ws → r ≡ FaultAt pair → lentTable ws ≡ refused 15 pair
+  pub lent-fault : (pair : ℕ) {r : Checked} → tableWords ≤ length ws → r ≡ checkOf ws → r ≡ FaultAt pair → lentTable ws ≡ refused 15 pair
   unfolding lentTable
-  lent-fault pair h p q = rw (le-ltb (length ws) 2048 h, told p q)
+  lent-fault pair h p q = rw (le-ltb (length ws) tableWords h, told p q)
 
-  pub lent-sound : (n : ℕ) {r : Checked} → 2048 ≤ length ws → r ≡ checkOf ws → r ≡ Sound n → lentTable ws ≡ answered (definitions n ws)
+  pub lent-sound : (n : ℕ) {r : Checked} → tableWords ≤ length ws → r ≡ checkOf ws → r ≡ Sound n → lentTable ws ≡ answered (definitions n ws)
   unfolding lentTable
-  lent-sound n h p q = rw (le-ltb (length ws) 2048 h, told p q)
+  lent-sound n h p q = rw (le-ltb (length ws) tableWords h, told p q)
 
   -- its definitions lie within it
-  pub lent-fits : (n : ℕ) {r : Checked} → 2048 ≤ length ws → r ≡ checkOf ws → r ≡ Sound n → 2 * n ≤ length ws
+  pub lent-fits : (n : ℕ) {r : Checked} → tableWords ≤ length ws → r ≡ checkOf ws → r ≡ Sound n → 2 * n ≤ length ws
   lent-fits n h p q = lent ws n h (told p q) .fits

@@ -1,6 +1,6 @@
 pub mod Pairs
 pub mod Walks
 pub mod Check
-pub mod Store
 pub mod Readback
 pub mod Lent
+pub mod Written

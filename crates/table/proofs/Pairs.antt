@@ -3,13 +3,13 @@ use Prim.Native.Nat.{ℕ, zero, suc, _+_, _*_, _-_, _≤_, _<_}
 use mathlib.Core.Path.{_≡_, refl, sym, ap, _∙_}
 use mathlib.Core.List.{List, [], _∷_, _++_}
 use native.Mathlib.Omega.{arith}
-use lib.ListN.{length, getD, drop}
-use lib.Seq.{drop-cons}
+use lib.ListN.{length, getD, take, drop, take-append-drop}
+use lib.Seq.{drop-cons, length-take-le}
 use borrow.Author.Tests.{eq-eqb, ne-eqb}
 use Rattle.definitions.specs.declared.Meaning.{Meaning}
 use Rattle.definitions.specs.declared.Definition.{Definition}
 use Rattle.definitions.specs.declared.Found.{Found}
-use Rattle.definitions.specs.declared.Found.the-variants.{Nothing, Is}
+use Rattle.definitions.specs.declared.Found.the-variants.{Undefined, Is}
 use Rattle.definitions.specs.Definitions.{find}
 use Rattle.table.specs.Words.{meaningOf, definitionOf, definitions}
 
@@ -28,17 +28,21 @@ definitions-length (suc n) [] h = absurd (omega arith)
 definitions-length (suc n) (c ∷ []) h = absurd (omega arith)
 definitions-length (suc n) (c ∷ w ∷ ws) h = ap suc (definitions-length n ws (omega arith))
 
--- the definitions of one pair more
-pub definitions-more : (n : ℕ) (ws : List ℕ) → 2 * n + 1 < length ws → definitions (n + 1) ws ≡ definitions n ws ++ definitionOf (getD ws (2 * n) 0) (getD ws (2 * n + 1) 0) ∷ []
+-- a pair behind n pairs is one definition more, whatever else follows
+pub definitions-two : (n : ℕ) (xs us ws : List ℕ) (a b : ℕ) → length xs ≡ 2 * n → definitions (n + 1) (xs ++ a ∷ b ∷ ws) ≡ definitions n (xs ++ us) ++ definitionOf a b ∷ []
 unfolding definitions
-definitions-more n [] h = absurd (omega arith)
-definitions-more n (c ∷ []) h = absurd (omega arith)
-definitions-more zero (c ∷ w ∷ ws) h = refl
-definitions-more (suc n) (c ∷ w ∷ ws) h =
-    let a : suc n + 1 ≡ suc (n + 1) = omega arith in
-    let b : 2 * suc n ≡ suc (suc (2 * n)) = omega arith in
-    let d : suc (suc (2 * n)) + 1 ≡ suc (suc (2 * n + 1)) = omega arith in
-    rw (a, b, d) (ap (λ (l : List Definition). definitionOf c w ∷ l) (definitions-more n ws (omega arith)))
+definitions-two zero [] us ws a b h = refl
+definitions-two zero (c ∷ xs) us ws a b h = absurd (omega arith)
+definitions-two (suc n) [] us ws a b h = absurd (omega arith)
+definitions-two (suc n) (c ∷ []) us ws a b h = absurd (omega arith)
+definitions-two (suc n) (c ∷ w ∷ xs) us ws a b h =
+    let e : suc n + 1 ≡ suc (n + 1) = omega arith in
+    rw e (ap (λ (l : List Definition). definitionOf c w ∷ l) (definitions-two n xs us ws a b (omega arith)))
+
+pub definitions-more : (n : ℕ) (ws : List ℕ) → 2 * n + 1 < length ws → definitions (n + 1) ws ≡ definitions n ws ++ definitionOf (getD ws (2 * n) 0) (getD ws (2 * n + 1) 0) ∷ []
+definitions-more n ws h =
+    rw (← two-more ws (2 * n) h, take-append-drop) at
+    (definitions-two n (take (2 * n) ws) (drop (2 * n) ws) (drop (2 * n + 2) ws) (getD ws (2 * n) 0) (getD ws (2 * n + 1) 0) (length-take-le (2 * n) ws (omega arith)))
 
 -- the definitions of the pairs i to n
 abbrev pub rest : ℕ → ℕ → List ℕ → List Definition
@@ -51,16 +55,13 @@ pub rest-none : (n i : ℕ) (ws : List ℕ) → n ≤ i → rest n i ws ≡ []
 unfolding definitions
 rest-none n i ws h = let a : n - i ≡ 0 = omega arith in rw a
 
-definitions-first : (n c w : ℕ) (ws : List ℕ) → definitions (suc n) (c ∷ w ∷ ws) ≡ definitionOf c w ∷ definitions n ws
-unfolding definitions
-definitions-first n c w ws = refl
-
 pub rest-more : (n i : ℕ) (ws : List ℕ) → i < n → 2 * n ≤ length ws → rest n i ws ≡ definitionOf (getD ws (2 * i) 0) (getD ws (2 * i + 1) 0) ∷ rest n (i + 1) ws
+unfolding definitions
 rest-more n i ws h l =
     let a : n - i ≡ suc (n - (i + 1)) = omega arith in
     let b : 2 * (i + 1) ≡ 2 * i + 2 = omega arith in
     let p : 2 * i + 1 < length ws = omega arith in
-    rw (b, a, two-more ws (2 * i) p) (definitions-first _ _ _ _)
+    rw (b, a, two-more ws (2 * i) p)
 
 -- a scan for c that has come to pair i of n; x is what it is to answer
 module _ (x : Found) (n i : ℕ) (ws : List ℕ) (c : ℕ) (inv : x ≡ find (rest n i ws) c) where
@@ -72,6 +73,6 @@ module _ (x : Found) (n i : ℕ) (ws : List ℕ) (c : ℕ) (inv : x ≡ find (re
   unfolding find
   scan-later h l e = inv ∙ rw (rest-more n i ws h l, ne-eqb _ c e)
 
-  pub scan-none : n ≤ i → Nothing ≡ x
+  pub scan-none : n ≤ i → Undefined ≡ x
   unfolding find
   scan-none h = sym (inv ∙ rw (rest-none n i ws h))

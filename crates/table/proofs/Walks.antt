@@ -11,9 +11,9 @@ use Rattle.definitions.specs.declared.Definition.{Definition}
 use Rattle.definitions.specs.declared.Found.{Found}
 use Rattle.definitions.specs.declared.Cell.{Cell}
 use Rattle.definitions.specs.declared.Walk.{Walk}
-use Rattle.definitions.specs.Definitions.{find, cellOf, targetOf, table, explicit, aliasOf, longer, walkWithin, walk}
+use Rattle.definitions.specs.Definitions.{find, cellOf, targetOf, table, explicit, aliasOf, walkWithin, walk}
 use Rattle.table.specs.Words.{definitions}
-use Rattle.table.specs.Walks.{walked}
+use Rattle.table.specs.Internal.{walkWithCell}
 use Rattle.table.proofs.Pairs.{definitions-length}
 
 at-links : (e : ℕ) {m n : ℕ} → m ≡ n → _≡_ {A = Walk} (record { end = e; links = m }) (record { end = e; links = n })
@@ -23,23 +23,10 @@ at-links e p = ap (λ (k : ℕ). record { end = e; links = k }) p
 abbrev pub after : ℕ → Walk → Walk
 after k w = record { end = w .end; links = k + w .links }
 
-module _ (alias : ℕ → Maybe) where
-  walk-none : (c : ℕ) → walkWithin alias 0 c ≡ record { end = c; links = 0 }
-  unfolding walkWithin
-  walk-none c = refl
-
-  walk-end : (n c : ℕ) → alias c ≡ Nothing → walkWithin alias n c ≡ record { end = c; links = 0 }
-  unfolding walkWithin
-  walk-end zero c e = refl
-  walk-end (suc n) c e = rw e
-
-  walk-link : (n c target : ℕ) → alias c ≡ Character target → walkWithin alias (suc n) c ≡ longer (walkWithin alias n target)
-  unfolding walkWithin
-  walk-link n c target e = rw e
-
--- what a walk to e over k links answers
-walk-to : (ds : List Definition) (c e k : ℕ) {v : Cell} → walk (table ds) c ≡ record { end = e; links = k } → v ≡ explicit (table ds) e → record { end = e; links = k; cell = v } ≡ walked (table ds) c
-walk-to ds c e k p q = rw (p, q)
+walk-end : (alias : ℕ → Maybe) (n c : ℕ) → alias c ≡ Nothing → walkWithin alias n c ≡ record { end = c; links = 0 }
+unfolding walkWithin
+walk-end alias zero c e = refl
+walk-end alias (suc n) c e = rw e
 
 pub walk-first : (n : ℕ) (ws : List ℕ) (c : ℕ) → 2 * n ≤ length ws → walk (table (definitions n ws)) c ≡ after 0 (walkWithin (aliasOf (table (definitions n ws))) (n - 0) c)
 unfolding walk
@@ -49,19 +36,19 @@ walk-first n ws c h =
 
 module _ (ds : List Definition) (c n k e : ℕ) (inv : walk (table ds) c ≡ after k (walkWithin (aliasOf (table ds)) (n - k) e)) where
   pub walk-on : {f : Found} {t : Maybe} (target : ℕ) → k < n → f ≡ find ds e → t ≡ targetOf f → t ≡ Character target → walk (table ds) c ≡ after (k + 1) (walkWithin (aliasOf (table ds)) (n - (k + 1)) target)
-  unfolding aliasOf
+  unfolding aliasOf walkWithin
   walk-on target h found of is =
       let p : n - k ≡ suc (n - (k + 1)) = omega arith in
-      let a : aliasOf (table ds) e ≡ Character target = rw (← found) (told of is) in
-      inv ∙ rw (p, walk-link (aliasOf (table ds)) (n - (k + 1)) e target a) (at-links _ (omega arith))
+      inv ∙ rw (p, ← found, told of is) (at-links _ (omega arith))
 
-  pub walk-ends : {f : Found} {t : Maybe} {v : Cell} → f ≡ find ds e → t ≡ targetOf f → t ≡ Nothing → v ≡ cellOf f → record { end = e; links = k; cell = v } ≡ walked (table ds) c
+  -- what the loop answers where the walk goes no further
+  walk-here : {v : Cell} → walkWithin (aliasOf (table ds)) (n - k) e ≡ record { end = e; links = 0 } → v ≡ explicit (table ds) e → record { end = e; links = k; cell = v } ≡ walkWithCell (table ds) c
+  walk-here here cell = let p : walk (table ds) c ≡ record { end = e; links = k } = inv ∙ rw here (at-links _ (omega arith)) in rw (p, cell)
+
+  pub walk-ends : {f : Found} {t : Maybe} {v : Cell} → f ≡ find ds e → t ≡ targetOf f → t ≡ Nothing → v ≡ cellOf f → record { end = e; links = k; cell = v } ≡ walkWithCell (table ds) c
   unfolding aliasOf explicit
-  walk-ends found of is cell =
-      let a : aliasOf (table ds) e ≡ Nothing = rw (← found) (told of is) in
-      walk-to ds c e k (inv ∙ rw (walk-end (aliasOf (table ds)) (n - k) e a) (at-links _ (omega arith))) (rw (← found) cell)
+  walk-ends found of is cell = walk-here (walk-end (aliasOf (table ds)) (n - k) e (rw (← found) (told of is))) (rw (← found) cell)
 
-  pub walk-cut : {v : Cell} → n ≤ k → v ≡ explicit (table ds) e → record { end = e; links = k; cell = v } ≡ walked (table ds) c
-  walk-cut h cell =
-      let p : n - k ≡ 0 = omega arith in
-      walk-to ds c e k (inv ∙ rw (p, walk-none (aliasOf (table ds)) e) (at-links _ (omega arith))) cell
+  pub walk-cut : {v : Cell} → n ≤ k → v ≡ explicit (table ds) e → record { end = e; links = k; cell = v } ≡ walkWithCell (table ds) c
+  unfolding walkWithin
+  walk-cut h cell = let p : n - k ≡ 0 = omega arith in walk-here (rw p) cell

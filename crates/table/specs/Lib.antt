@@ -1,3 +1,3 @@
 pub mod Words
-pub mod Walks
 pub mod Check
+pub mod Internal

@@ -1,6 +1,6 @@
 -- The words of a compiled table, and the definitions that they say.
 use Prim.Native.Nat.{ℕ, zero, suc, _+_, _*_, _-_, _/_, _%_}
-use mathlib.Core.Bool.{Bool, true, false}
+use mathlib.Core.Bool.{Bool, false}
 use mathlib.Core.List.{List, [], _∷_, _++_}
 use lib.ListN.{length, replicate}
 use lib.Dec.{eqb, leb}
@@ -9,6 +9,7 @@ use Rattle.unicode.specs.Characters.{isScalar}
 use Rattle.definitions.specs.declared.Meaning.{Meaning}
 use Rattle.definitions.specs.declared.Meaning.the-variants.{Typed, Shown, Alias}
 use Rattle.definitions.specs.declared.Definition.{Definition}
+use Rattle.definitions.specs.Definitions.{Table, table}
 
 -- the words of a table: two for each of 1,024 definitions
 abbrev pub tableWords : ℕ
@@ -60,3 +61,7 @@ definitions zero ws = []
 definitions (suc n) [] = []
 definitions (suc n) (c ∷ []) = []
 definitions (suc n) (c ∷ w ∷ ws) = definitionOf c w ∷ definitions n ws
+
+-- the table that they are
+abbrev pub tableOf : ℕ → List ℕ → Table
+tableOf n ws = table (definitions n ws)

@@ -1,7 +1,9 @@
 // A compiled table: 2,048 words of a lent slice, two a definition. A count is that of the pairs that count as definitions.
 use basics::Maybe;
 use basics::Refusal;
+use basics::widen;
 use definitions::Cell;
+use definitions::DEFINITION_LIMIT;
 use definitions::Definition;
 use definitions::Found;
 use definitions::Meaning;
@@ -11,11 +13,17 @@ ghost use mathlib.Core.Bool.{_&&_};
 ghost use mathlib.Core.List.{[], _++_};
 ghost use Prim.Native.Nat.{_+_, _*_, _≤_, _<_};
 ghost use lib.ListN.{length, drop, set, replicate};
-ghost use Rattle.definitions.specs.Definitions.{find, table, explicit};
-ghost use Rattle.definitions.specs.Effects.{closesLoop, verdictOf};
-ghost use Rattle.table.specs.Words.{wordOf, meaningOf, isSoundWord, definitions};
-ghost use Rattle.table.specs.Walks.{walked};
+ghost use Rattle.definitions.specs.Definitions.{find, explicit};
+ghost use Rattle.definitions.specs.Effects.{definitionLimit, closesLoop, verdictOf};
+ghost use Rattle.table.specs.Words.{tableWords, kindUnit, wordOf, meaningOf, isSoundWord, definitions, tableOf};
+ghost use Rattle.table.specs.Internal.{walkWithCell};
 ghost use Rattle.table.specs.Check.{isZeroPair, isSoundPair, zeroFrom, checkFrom, checkOf};
+
+// The words of a table: two for each definition.
+pub const TABLE_WORDS: usize = 2048;
+
+// 2^24, which parts the kind of a second word from its number.
+const KIND_UNIT: u32 = 0x1000000;
 
 // What a lent slice of 2,048 words or more is: a table of so many definitions, or none, by the first pair at fault.
 pub enum Checked {
@@ -30,21 +38,15 @@ pub struct Walked {
     pub cell: Cell,
 }
 
-fn widen(dots: u8) -> u32
-    ensures { λ r. ⌜ r ≡ dots ⌝ }
-{
-    dots as u32
-}
-
 // The second word of a definition.
 fn word_of(m: Meaning) -> u32
-    requires { ⌜ wordOf m < 67108864 ⌝ }
+    requires { ⌜ wordOf m < 4 * kindUnit ⌝ }
     ensures { λ r. ⌜ r ≡ wordOf m ⌝ }
 {
     match m {
-        Meaning::Typed(dots) => 16777216 + widen(dots),
-        Meaning::Shown(dots) => 33554432 + widen(dots),
-        Meaning::Alias(target) => 50331648 + target,
+        Meaning::Typed(dots) => KIND_UNIT + widen(dots),
+        Meaning::Shown(dots) => 2 * KIND_UNIT + widen(dots),
+        Meaning::Alias(target) => 3 * KIND_UNIT + target,
     }
 }
 
@@ -52,22 +54,22 @@ fn word_of(m: Meaning) -> u32
 pub fn meaning_of(w: u32) -> Meaning
     ensures { λ r. ⌜ r ≡ meaningOf w ⌝ }
 {
-    let kind = w / 16777216;
+    let kind = w / KIND_UNIT;
     if kind == 1 {
         return Meaning::Typed((w % 256) as u8);
     }
     if kind == 2 {
         return Meaning::Shown((w % 256) as u8);
     }
-    Meaning::Alias(w % 16777216)
+    Meaning::Alias(w % KIND_UNIT)
 }
 
 // Whether a second word has a good kind and number.
 fn is_sound_word(w: u32) -> bool
     ensures { λ r. ⌜ r ≡ isSoundWord w ⌝ }
 {
-    let kind = w / 16777216;
-    let number = w % 16777216;
+    let kind = w / KIND_UNIT;
+    let number = w % KIND_UNIT;
     if kind == 1 {
         return number <= 255;
     }
@@ -92,13 +94,13 @@ pub fn find_pair(words: &[u32], count: usize, c: u32) -> Found
         }
         i += 1;
     }
-    Found::Nothing
+    Found::Undefined
 }
 
 // The explicit cell of `c`.
 pub fn explicit_cell(words: &[u32], count: usize, c: u32) -> Cell
     requires { ⌜ 2 * count ≤ length (now words) ⌝ }
-    ensures { λ r. ⌜ r ≡ explicit (table (definitions count (now (words .entry)))) c ⌝ }
+    ensures { λ r. ⌜ r ≡ explicit (tableOf count (now (words .entry))) c ⌝ }
 {
     definitions::cell_of(find_pair(words, count, c))
 }
@@ -106,7 +108,7 @@ pub fn explicit_cell(words: &[u32], count: usize, c: u32) -> Cell
 // The alias walk of `c`. What was found at its end says the cell too, so that the end is not looked for again.
 pub fn walk_from(words: &[u32], count: usize, c: u32) -> Walked
     requires { ⌜ 2 * count ≤ length (now words) ⌝ }
-    ensures { λ r. ⌜ r ≡ walked (table (definitions count (now (words .entry)))) c ⌝ }
+    ensures { λ r. ⌜ r ≡ walkWithCell (tableOf count (now (words .entry))) c ⌝ }
 {
     let mut at = c;
     let mut links = 0;
@@ -156,11 +158,11 @@ pub fn judge(words: &[u32], count: usize, d: Definition) -> Verdict
     let m = d.meaning;
     match find_pair(words, count, c) {
         Found::Is(_) => Verdict::Refused(Refusal::AlreadyDefined),
-        Found::Nothing => {
+        Found::Undefined => {
             if closes_loop(words, count, c, m) {
                 return Verdict::Refused(Refusal::AliasLoop);
             }
-            if 1024 <= count {
+            if DEFINITION_LIMIT <= count {
                 return Verdict::Refused(Refusal::TableFull);
             }
             Verdict::Admitted
@@ -170,7 +172,7 @@ pub fn judge(words: &[u32], count: usize, d: Definition) -> Verdict
 
 // Writes definition `k`.
 pub fn put(words: &mut [u32], k: usize, d: Definition)
-    requires { ⌜ (2 * k + 1 < length (now words)) × (wordOf (d .meaning) < 67108864) ⌝ }
+    requires { ⌜ (2 * k + 1 < length (now words)) × (wordOf (d .meaning) < 4 * kindUnit) ⌝ }
     ensures { λ r. ⌜ now (words .exit) ≡ set (set (now (words .entry)) (2 * k) (d .character)) (2 * k + 1) (wordOf (d .meaning)) ⌝ }
 {
     let c = d.character;
@@ -181,11 +183,11 @@ pub fn put(words: &mut [u32], k: usize, d: Definition)
 
 // Zeroes the 2,048 words.
 pub fn clear(words: &mut [u32])
-    requires { ⌜ 2048 ≤ length (now words) ⌝ }
-    ensures { λ r. ⌜ now (words .exit) ≡ replicate 2048 0 ++ drop 2048 (now (words .entry)) ⌝ }
+    requires { ⌜ tableWords ≤ length (now words) ⌝ }
+    ensures { λ r. ⌜ now (words .exit) ≡ replicate tableWords 0 ++ drop tableWords (now (words .entry)) ⌝ }
 {
     let mut i = 0;
-    while i < 2048 {
+    while i < TABLE_WORDS {
         words[i] = 0;
         i += 1;
     }
@@ -211,11 +213,11 @@ fn is_sound_pair(c: u32, w: u32) -> bool
 
 // Behind a zero pair: the pairs from `from` on are zero, or the first that is not is at fault.
 fn zero_from(words: &[u32], count: usize, from: usize) -> Checked
-    requires { ⌜ (length (now words) ≡ 2048) × (from ≤ 1024) ⌝ }
+    requires { ⌜ (length (now words) ≡ tableWords) × (from ≤ definitionLimit) ⌝ }
     ensures { λ r. ⌜ r ≡ zeroFrom count from (drop (2 * from) (now (words .entry))) ⌝ }
 {
     let mut i = from;
-    while i < 1024 {
+    while i < DEFINITION_LIMIT {
         if !is_zero_pair(words[2 * i], words[2 * i + 1]) {
             return Checked::FaultAt(i);
         }
@@ -226,11 +228,11 @@ fn zero_from(words: &[u32], count: usize, from: usize) -> Checked
 
 // The check of 2,048 words: each pair against the earlier ones, left at the first repeat.
 fn check_words(words: &[u32]) -> Checked
-    requires { ⌜ length (now words) ≡ 2048 ⌝ }
+    requires { ⌜ length (now words) ≡ tableWords ⌝ }
     ensures { λ r. ⌜ r ≡ checkFrom [] (now (words .entry)) ⌝ }
 {
     let mut k = 0;
-    'pairs: while k < 1024 {
+    'pairs: while k < DEFINITION_LIMIT {
         let c = words[2 * k];
         let w = words[2 * k + 1];
         if is_zero_pair(c, w) {
@@ -251,17 +253,17 @@ fn check_words(words: &[u32]) -> Checked
         }
         k += 1;
     }
-    if k < 1024 {
+    if k < DEFINITION_LIMIT {
         Checked::FaultAt(k)
     } else {
-        Checked::Sound(1024)
+        Checked::Sound(DEFINITION_LIMIT)
     }
 }
 
 // Which table a lent slice is, or its first pair at fault.
 pub fn check_table(words: &[u32]) -> Checked
-    requires { ⌜ 2048 ≤ length (now words) ⌝ }
+    requires { ⌜ tableWords ≤ length (now words) ⌝ }
     ensures { λ r. ⌜ r ≡ checkOf (now (words .entry)) ⌝ }
 {
-    check_words(&words[..2048])
+    check_words(&words[..TABLE_WORDS])
 }

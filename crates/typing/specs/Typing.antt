@@ -2,7 +2,7 @@
 use Prim.Native.Nat.{ℕ}
 use mathlib.Core.List.{List, [], _∷_}
 use lib.ListN.{getD, set, replicate}
-use Rattle.basics.specs.Refusals.{numberOf, Reply, answered, refused, andThen}
+use Rattle.basics.specs.Refusals.{Reply, answered, refused, andThen}
 use Rattle.basics.specs.declared.Maybe.{Maybe}
 use Rattle.basics.specs.declared.Maybe.the-variants.{Nothing, Character}
 use Rattle.definitions.specs.declared.Meaning.{Meaning}
@@ -10,8 +10,6 @@ use Rattle.definitions.specs.declared.Meaning.the-variants.{Typed, Shown, Alias
 use Rattle.definitions.specs.declared.Definition.{Definition}
 use Rattle.table.specs.Check.{lentTable}
 use Rattle.typing.specs.declared.Entry.{Entry}
-use Rattle.typing.specs.declared.Typed as Answer
-use Rattle.typing.specs.declared.Typed.the-variants.{Filled, Refused}
 
 abbrev pub entry : Maybe → Entry
 entry typed = record { types = typed }
@@ -46,10 +44,6 @@ entriesOf ds = filledFrom ds (replicate 256 nothing)
 -- the typing call answers no value but the entries
 abbrev pub typingReply : List ℕ → Reply (Unit {0})
 typingReply ws = andThen (lentTable ws) (λ ds. answered tt)
-
-abbrev pub typedReply : Answer.Typed → Reply (Unit {0})
-typedReply Filled = answered tt
-typedReply (Refused refusal place) = refused (numberOf refusal) place
 
 abbrev pub entriesBy : Reply (List Definition) → List Entry
 entriesBy (answered ds) = entriesOf ds

@@ -1,28 +1,25 @@
 // From a typed cell to its character.
+use basics::Filling;
 use basics::Maybe;
 use basics::Refusal;
 use definitions::Meaning;
 use table::Checked;
+use table::TABLE_WORDS;
 ghost use mathlib.Core.Path.{_≡_};
 ghost use Prim.Native.Nat.{_*_, _≤_};
 ghost use lib.ListN.{length, replicate};
+ghost use Rattle.basics.specs.Refusals.{fillingReply};
 ghost use Rattle.table.specs.Words.{definitions};
-ghost use Rattle.typing.specs.Typing.{nothing, keptIn, entriesOf, typingReply, typedReply, typingEntries};
+ghost use Rattle.typing.specs.Typing.{nothing, keptIn, entriesOf, typingReply, typingEntries};
 
 // What one cell types.
 pub struct Entry {
     pub types: Maybe,
 }
 
-// Whether the entry table was filled; a refusal with its place.
-pub enum Typed {
-    Filled,
-    Refused(Refusal, usize),
-}
-
 // What the typing call hands back: its answer, and the entries of the 256 cells.
 pub struct Entries {
-    pub answer: Typed,
+    pub answer: Filling,
     pub entries: [Entry; 256],
 }
 
@@ -66,10 +63,10 @@ fn fill_entries(words: &[u32], count: usize) -> [Entry; 256]
 
 // A refused call's answer: an entry table that types nothing.
 fn no_entries(refusal: Refusal, place: usize) -> Entries
-    ensures { λ r. ⌜ (r .answer ≡ Typed.Refused refusal place) × (r .entries ≡ replicate 256 nothing) ⌝ }
+    ensures { λ r. ⌜ (r .answer ≡ Filling.Refused refusal place) × (r .entries ≡ replicate 256 nothing) ⌝ }
 {
     Entries {
-        answer: Typed::Refused(refusal, place),
+        answer: Filling::Refused(refusal, place),
         entries: [Entry {
             types: Maybe::Nothing,
         }; 256],
@@ -78,10 +75,10 @@ fn no_entries(refusal: Refusal, place: usize) -> Entries
 
 // The typing call: any slice.
 pub fn typed_entries(words: &[u32]) -> Entries
-    ensures answer { λ r. ⌜ typedReply (r .answer) ≡ typingReply (now (words .entry)) ⌝ }
+    ensures answer { λ r. ⌜ fillingReply (r .answer) ≡ typingReply (now (words .entry)) ⌝ }
     ensures entries { λ r. ⌜ r .entries ≡ typingEntries (now (words .entry)) ⌝ }
 {
-    if words.len() < 2048 {
+    if words.len() < TABLE_WORDS {
         return no_entries(Refusal::ShortSlice, 0);
     }
     match table::check_table(words) {
@@ -89,7 +86,7 @@ pub fn typed_entries(words: &[u32]) -> Entries
         Checked::Sound(count) => {
             let entries = fill_entries(words, count);
             Entries {
-                answer: Typed::Filled,
+                answer: Filling::Filled,
                 entries,
             }
         }

@@ -1,6 +1,6 @@
 -- Scalar values, the two rows that rules 1 and 2 are about, base characters, ASCII stand-ins, the local character set.
 use Prim.Native.Nat.{ℕ, _%_}
-use mathlib.Core.Bool.{Bool, true, false, _&&_, _||_}
+use mathlib.Core.Bool.{Bool, _&&_, _||_}
 use mathlib.Core.List.{List, [], _∷_}
 use lib.Dec.{ltb, leb}
 use Rattle.basics.specs.Choice.{pick}

@@ -2,12 +2,13 @@
 use basics::Maybe;
 ghost use mathlib.Core.Path.{_≡_};
 ghost use lib.ListN.{length};
-ghost use Rattle.unicode.specs.Utf8.{afterFirst, afterFurther, afterByte, atEnd, utf8, BadWithin};
+ghost use Rattle.unicode.specs.Utf8.{afterFirst, afterFurther, afterByte, atEnd, utf8};
+ghost use Rattle.unicode.specs.Internal.{BadWithin};
 ghost use Rattle.unicode.specs.Characters.{isScalar, isBraille, isPrivate, localCharacter, localOf, standsFor, baseOf, standInOf};
 
 // Where the reading of a line as UTF-8 stands: between two characters; in a character that still wants `left` bytes,
 // the next of them from `low` to `high`; or past a bad sequence. The position is where that sequence begins.
-pub enum Progress {
+pub enum Utf8State {
     Between,
     Inside {
         left: u8,
@@ -15,7 +16,7 @@ pub enum Progress {
         high: u8,
         start: usize,
     },
-    Bad(usize),
+    Broken(usize),
 }
 
 // A line as UTF-8: good, or where its first bad sequence begins.
@@ -24,10 +25,10 @@ pub enum Validity {
     BadAt(usize),
 }
 
-fn inside(left: u8, low: u8, high: u8, start: usize) -> Progress
-    ensures { λ r. ⌜ r ≡ Progress.Inside left low high start ⌝ }
+fn inside(left: u8, low: u8, high: u8, start: usize) -> Utf8State
+    ensures { λ r. ⌜ r ≡ Utf8State.Inside left low high start ⌝ }
 {
-    Progress::Inside {
+    Utf8State::Inside {
         left,
         low,
         high,
@@ -36,14 +37,14 @@ fn inside(left: u8, low: u8, high: u8, start: usize) -> Progress
 }
 
 // After the first byte `b` of a character, which stands at `i`.
-fn after_first(b: u8, i: usize) -> Progress
+fn after_first(b: u8, i: usize) -> Utf8State
     ensures { λ r. ⌜ r ≡ afterFirst b i ⌝ }
 {
     if b < 0x80 {
-        return Progress::Between;
+        return Utf8State::Between;
     }
     if b < 0xC2 {
-        return Progress::Bad(i);
+        return Utf8State::Broken(i);
     }
     if b < 0xE0 {
         return inside(1, 0x80, 0xBF, i);
@@ -66,54 +67,54 @@ fn after_first(b: u8, i: usize) -> Progress
     if b == 0xF4 {
         return inside(3, 0x80, 0x8F, i);
     }
-    Progress::Bad(i)
+    Utf8State::Broken(i)
 }
 
 // After a further byte `b` of a character.
-fn after_further(left: u8, low: u8, high: u8, start: usize, b: u8) -> Progress
+fn after_further(left: u8, low: u8, high: u8, start: usize, b: u8) -> Utf8State
     ensures { λ r. ⌜ r ≡ afterFurther left low high start b ⌝ }
 {
     if b < low {
-        return Progress::Bad(start);
+        return Utf8State::Broken(start);
     }
     if high < b {
-        return Progress::Bad(start);
+        return Utf8State::Broken(start);
     }
     if left <= 1 {
-        return Progress::Between;
+        return Utf8State::Between;
     }
     inside(left - 1, 0x80, 0xBF, start)
 }
 
 // After the byte `b` at `i`.
-fn after_byte(p: Progress, b: u8, i: usize) -> Progress
+fn after_byte(p: Utf8State, b: u8, i: usize) -> Utf8State
     ensures { λ r. ⌜ r ≡ afterByte p b i ⌝ }
 {
     match p {
-        Progress::Between => after_first(b, i),
-        Progress::Inside {
+        Utf8State::Between => after_first(b, i),
+        Utf8State::Inside {
             left,
             low,
             high,
             start,
         } => after_further(left, low, high, start, b),
-        Progress::Bad(start) => Progress::Bad(start),
+        Utf8State::Broken(start) => Utf8State::Broken(start),
     }
 }
 
 // At the line's end, where a cut sequence is bad too.
-fn at_end(p: Progress) -> Validity
+fn at_end(p: Utf8State) -> Validity
     ensures { λ r. ⌜ r ≡ atEnd p ⌝ }
 {
     match p {
-        Progress::Between => Validity::Good,
-        Progress::Inside {
+        Utf8State::Between => Validity::Good,
+        Utf8State::Inside {
             left: _,
             low: _,
             high: _,
             start,
         } => Validity::BadAt(start),
-        Progress::Bad(start) => Validity::BadAt(start),
+        Utf8State::Broken(start) => Validity::BadAt(start),
     }
 }
 
@@ -122,7 +123,7 @@ pub fn check_utf8(line: &[u8]) -> Validity
     ensures { λ r. ⌜ r ≡ utf8 (now (line .entry)) ⌝ }
     ensures { λ r. ⌜ BadWithin r (length (now (line .entry))) ⌝ }
 {
-    let mut p = Progress::Between;
+    let mut p = Utf8State::Between;
     let mut i = 0;
     while i < line.len() {
         p = after_byte(p, line[i], i);
@@ -181,62 +182,7 @@ pub fn local_of(c: u32) -> u32
     c
 }
 
-// First character, last character, and the base character of all between.
-const BASES: [u32; 51] = [
-    0xC0,
-    0xC5,
-    0x41,
-    0xC7,
-    0xC7,
-    0x43,
-    0xC8,
-    0xCB,
-    0x45,
-    0xCC,
-    0xCF,
-    0x49,
-    0xD1,
-    0xD1,
-    0x4E,
-    0xD2,
-    0xD6,
-    0x4F,
-    0xD9,
-    0xDC,
-    0x55,
-    0xDD,
-    0xDD,
-    0x59,
-    0xE0,
-    0xE5,
-    0x61,
-    0xE7,
-    0xE7,
-    0x63,
-    0xE8,
-    0xEB,
-    0x65,
-    0xEC,
-    0xEF,
-    0x69,
-    0xF1,
-    0xF1,
-    0x6E,
-    0xF2,
-    0xF6,
-    0x6F,
-    0xF9,
-    0xFC,
-    0x75,
-    0xFD,
-    0xFD,
-    0x79,
-    0xFF,
-    0xFF,
-    0x79,
-];
-
-// The same for ASCII stand-ins.
+// First character, last character, and the ASCII stand-in of all between.
 const STAND_INS: [u32; 30] = [
     0xA0,
     0xA0,
@@ -287,11 +233,64 @@ fn stands_for(rows: &[u32], c: u32) -> Maybe
     Maybe::Nothing
 }
 
-// The base character of `c`.
+// The base character of `c`. A row is the first character, the last, and the base of all between.
 pub fn base_of(c: u32) -> Maybe
     ensures { λ r. ⌜ r ≡ baseOf c ⌝ }
 {
-    stands_for(&BASES, c)
+    let rows: [u32; 51] = [
+        0xC0,
+        0xC5,
+        0x41,
+        0xC7,
+        0xC7,
+        0x43,
+        0xC8,
+        0xCB,
+        0x45,
+        0xCC,
+        0xCF,
+        0x49,
+        0xD1,
+        0xD1,
+        0x4E,
+        0xD2,
+        0xD6,
+        0x4F,
+        0xD9,
+        0xDC,
+        0x55,
+        0xDD,
+        0xDD,
+        0x59,
+        0xE0,
+        0xE5,
+        0x61,
+        0xE7,
+        0xE7,
+        0x63,
+        0xE8,
+        0xEB,
+        0x65,
+        0xEC,
+        0xEF,
+        0x69,
+        0xF1,
+        0xF1,
+        0x6E,
+        0xF2,
+        0xF6,
+        0x6F,
+        0xF9,
+        0xFC,
+        0x75,
+        0xFD,
+        0xFD,
+        0x79,
+        0xFF,
+        0xFF,
+        0x79,
+    ];
+    stands_for(&rows, c)
 }
 
 // The ASCII stand-in of `c`.

@@ -1,49 +1,75 @@
-// Runs the cases of standard input and writes each answer that differs from the one expected, then how many there were.
+// Runs the cases of standard input, writes each answer that differs from the one expected, then how many there were.
+use answers::Text;
 use libc::STDIN_FILENO;
-ghost use Prim.Native.Nat.{_+_, _≤_, _<_};
+use libc::STDOUT_FILENO;
 
-// How many cases there were so far, and how many differ.
+// How many lines and cases there were so far, and how many cases differ.
 struct Tally {
+    lines: u64,
     cases: u64,
     differ: u64,
 }
 
-// The tally with one line more, of that number.
-fn with_line(t: Tally, line: &[u8], number: u64) -> Tally
-    requires { ⌜ (t .cases < number) × (t .differ < number) ⌝ }
-    ensures { λ r. ⌜ (r .cases ≤ t .cases + 1) × (r .differ ≤ t .differ + 1) ⌝ }
-{
-    if !cases::is_case(line) {
-        return t;
-    }
-    let answer = cases::answer(line);
-    if cases::is_text(answer, cases::expected(line)) {
+// One more; no input is long enough for a count to wrap.
+fn next(n: u64) -> u64 {
+    std::num::wrapping_add_u64(n, 1)
+}
+
+fn write_difference(line: u64, answer: Text) {
+    io::write_all(STDOUT_FILENO, b"line ");
+    io::print_decimal(STDOUT_FILENO, line);
+    io::write_all(STDOUT_FILENO, b": got ");
+    answers::write(answer);
+    io::write_all(STDOUT_FILENO, b"\n");
+}
+
+fn write_summary(t: Tally) {
+    io::print_decimal(STDOUT_FILENO, t.cases);
+    io::write_all(STDOUT_FILENO, b" cases, ");
+    io::print_decimal(STDOUT_FILENO, t.differ);
+    io::write_all(STDOUT_FILENO, b" differ\n");
+}
+
+// The tally with one line more; a line that is empty or a comment is no case.
+fn with_line(t: Tally, line: &[u8]) -> Tally {
+    let lines = next(t.lines);
+    if lines::is_over(line, 0) {
         return Tally {
-            cases: t.cases + 1,
+            lines,
+            cases: t.cases,
             differ: t.differ,
         };
     }
-    cases::write(cases::difference(number, answer));
+    let cases = next(t.cases);
+    let answer = cases::answer(line);
+    if answers::is_text(answer, cases::expected(line)) {
+        return Tally {
+            lines,
+            cases,
+            differ: t.differ,
+        };
+    }
+    write_difference(lines, answer);
     Tally {
-        cases: t.cases + 1,
-        differ: t.differ + 1,
+        lines,
+        cases,
+        differ: next(t.differ),
     }
 }
 
 fn run(file: &[u8]) {
     let mut t = Tally {
+        lines: 0,
         cases: 0,
         differ: 0,
     };
-    let mut number = 1;
     let mut at = 0;
     while at < file.len() {
         let end = lines::line_end(file, at);
-        t = with_line(t, &file[at..end], number);
+        t = with_line(t, &file[at..end]);
         at = end + 1;
-        number += 1;
     }
-    cases::write(cases::summary(t.cases, t.differ));
+    write_summary(t);
 }
 
 fn main() {

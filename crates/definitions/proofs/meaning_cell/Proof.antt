@@ -2,24 +2,6 @@ use borrow.Author.Needs.{needs}
 use Rattle.definitions.proofs.meaning_cell.Statement.{statement}
 use Rattle.definitions.proofs.meaning_cell.Tie as tie
 
-enum-known-m : tie.Need-enum-known-m
-enum-known-m c = search needs
-
-enum-known-m-2 : tie.Need-enum-known-m-2
-enum-known-m-2 c = search needs
-
-enum-told : tie.Need-enum-told
-enum-told c = search needs
-
-returns : tie.Need-returns
-returns c = cc
-
-returns-2 : tie.Need-returns-2
-returns-2 c = cc
-
-returns-3 : tie.Need-returns-3
-returns-3 c = search needs
-
 pub meaning-cell-spec : {M : Type 1} → statement M
 meaning-cell-spec =
-    tie.close (tie.spec enum-known-m enum-known-m-2 enum-told returns returns-2 returns-3)
+    tie.close (tie.spec (λ c. search needs) (λ c. search needs) (λ c. search needs) (λ c. cc) (λ c. cc) (λ c. search needs))

@@ -1,5 +1,5 @@
 use borrow.Author.Needs.{needs}
-use Rattle.lines.specs.Lines.{toLF}
+use Rattle.lines.specs.Internal.{toLF}
 use Rattle.lines.proofs.Lines.{end-here, end-on, end-none}
 use lib.ListN.{length, drop}
 use Prim.Native.Nat.{_+_, _-_, _≤_}
@@ -7,32 +7,12 @@ use mathlib.Core.Path.{_≡_, refl}
 use Rattle.lines.proofs.line_end.Statement.{statement}
 use Rattle.lines.proofs.line_end.Tie as tie
 
+-- no LF stands before i
 abbrev Inv-loop : tie.InvT-loop
 Inv-loop text at i₀ i = (at ≤ i) × (i ≤ length text) × (at + toLF (drop at text) ≡ i + toLF (drop i text))
 
 abbrev μ-loop : tie.MeasureT-loop
 μ-loop text at i₀ i = length text - i
-
-loop-holds : tie.Need-loop-holds Inv-loop μ-loop
-loop-holds c = (search needs, search needs, refl)
-
-shared-slice-read-if1 : tie.Need-shared-slice-read-if1 Inv-loop μ-loop
-shared-slice-read-if1 c = search needs
-
-returns : tie.Need-returns Inv-loop μ-loop
-returns c = record { is = search end-here; from = search needs; within = search needs }
-
-add-i : tie.Need-add-i Inv-loop μ-loop
-add-i c = search needs
-
-loop-less : tie.Need-loop-less Inv-loop μ-loop
-loop-less c = search needs
-
-loop-again : tie.Need-loop-again Inv-loop μ-loop
-loop-again c = (search needs, search needs, search end-on)
-
-returns-2 : tie.Need-returns-2 Inv-loop μ-loop
-returns-2 c = record { is = search end-none; from = search needs; within = search needs }
 
 pub line-end-spec : {M : Type 1} → statement M
 line-end-spec =
@@ -40,10 +20,10 @@ line-end-spec =
     (tie.spec
     Inv-loop
     μ-loop
-    loop-holds
-    shared-slice-read-if1
-    returns
-    add-i
-    loop-less
-    loop-again
-    returns-2)
+    (λ c. (search needs, search needs, refl))
+    (λ c. search needs)
+    (λ c. search (end-here, needs))
+    (λ c. search needs)
+    (λ c. search needs)
+    (λ c. (search needs, search needs, search end-on))
+    (λ c. search (end-none, needs)))

@@ -9,32 +9,12 @@ use Rattle.report.proofs.Lines.{text-start, text-more, text-end}
 use Rattle.report.proofs.with_text.Statement.{statement}
 use Rattle.report.proofs.with_text.Tie as tie
 
+-- the line has grown by the first i bytes of the text
 abbrev Inv-loop : tie.InvT-loop
 Inv-loop text more₀ i₀ more i = (i ≤ L.length text) × (more .length ≡ more₀ .length + i) × (textOf more ≡ textOf more₀ ++ L.take i text)
 
 abbrev μ-loop : tie.MeasureT-loop
 μ-loop text more₀ i₀ more i = L.length text - i
-
-loop-holds : tie.Need-loop-holds Inv-loop μ-loop
-loop-holds c = (omega arith, omega arith, search text-start)
-
-shared-slice-read-with-byte : tie.Need-shared-slice-read-with-byte Inv-loop μ-loop
-shared-slice-read-with-byte c = search needs
-
-with-byte-requires : tie.Need-with-byte-requires Inv-loop μ-loop
-with-byte-requires c κs = search needs
-
-add-i : tie.Need-add-i Inv-loop μ-loop
-add-i c = search needs
-
-loop-less : tie.Need-loop-less Inv-loop μ-loop
-loop-less c = search needs
-
-loop-again : tie.Need-loop-again Inv-loop μ-loop
-loop-again c = (omega arith, omega arith, search text-more)
-
-returns : tie.Need-returns Inv-loop μ-loop
-returns c = search text-end
 
 pub with-text-spec : {M : Type 1} → statement M
 with-text-spec =
@@ -42,10 +22,10 @@ with-text-spec =
     (tie.spec
     Inv-loop
     μ-loop
-    loop-holds
-    shared-slice-read-with-byte
-    with-byte-requires
-    add-i
-    loop-less
-    loop-again
-    returns)
+    (λ c. (omega arith, omega arith, search text-start))
+    (λ c. search needs)
+    (λ c κs. search needs)
+    (λ c. search needs)
+    (λ c. search needs)
+    (λ c. (omega arith, omega arith, search text-more))
+    (λ c. search text-end))

@@ -2,47 +2,17 @@ use borrow.Author.Needs.{needs}
 use Rattle.table.proofs.put.Statement.{statement}
 use Rattle.table.proofs.put.Tie as tie
 
-mul-words : tie.Need-mul-words
-mul-words c = search needs
-
-mul-words-2 : tie.Need-mul-words-2
-mul-words-2 c = search needs
-
-slice-write-words : tie.Need-slice-write-words
-slice-write-words c = search needs
-
-word-of-requires : tie.Need-word-of-requires
-word-of-requires c κs = search needs
-
-mul-words-3 : tie.Need-mul-words-3
-mul-words-3 c = search needs
-
-add-words : tie.Need-add-words
-add-words c = search needs
-
-mul-words-4 : tie.Need-mul-words-4
-mul-words-4 c = search needs
-
-slice-write-words-2 : tie.Need-slice-write-words-2
-slice-write-words-2 c = search needs
-
-same-length : tie.Need-same-length
-same-length c = search needs
-
-returns : tie.Need-returns
-returns c = rw (c .word-of .ensures)
-
 pub put-spec : {M : Type 1} → statement M
 put-spec =
     tie.close
     (tie.spec
-    mul-words
-    mul-words-2
-    slice-write-words
-    word-of-requires
-    mul-words-3
-    add-words
-    mul-words-4
-    slice-write-words-2
-    same-length
-    returns)
+    (λ c. search needs)
+    (λ c. search needs)
+    (λ c. search needs)
+    (λ c κs. search needs)
+    (λ c. search needs)
+    (λ c. search needs)
+    (λ c. search needs)
+    (λ c. search needs)
+    (λ c. search needs)
+    (λ c. rw (c .word-of .ensures)))

@@ -1,59 +1,22 @@
+use Rattle.definitions.specs.Effects.{definitionLimit}
+use Rattle.basics.proofs.Tests.{chosen}
+use borrow.Author.Tests.{not-true, not-false}
+use Rattle.table.specs.Words.{tableWords}
 use borrow.Author.Needs.{needs}
 use Prim.Native.Nat.{_*_, _≤_, _-_}
 use mathlib.Core.Path.{_≡_, refl}
 use lib.ListN.{length, drop}
 use Rattle.table.specs.Check.{zeroFrom}
-use Rattle.table.proofs.Check.{zero-on, zero-fault, zero-over}
+use Rattle.table.proofs.Check.{zero-next, zero-over}
 use Rattle.table.proofs.zero_from.Statement.{statement}
 use Rattle.table.proofs.zero_from.Tie as tie
 
+-- The pairs from `from` to i are zero, so those from i on decide.
 abbrev Inv-loop : tie.InvT-loop
-Inv-loop words count from i₀ i = (i ≤ 1024) × (length words ≡ 2048) × (zeroFrom count from (drop (2 * from) words) ≡ zeroFrom count i (drop (2 * i) words))
+Inv-loop words count from i₀ i = (i ≤ definitionLimit) × (length words ≡ tableWords) × (zeroFrom count i (drop (2 * i) words) ≡ zeroFrom count from (drop (2 * from) words))
 
 abbrev μ-loop : tie.MeasureT-loop
-μ-loop words count from i₀ i = 1024 - i
-
-loop-holds : tie.Need-loop-holds Inv-loop μ-loop
-loop-holds c = (search needs, search needs, refl)
-
-mul-is-zero-pair : tie.Need-mul-is-zero-pair Inv-loop μ-loop
-mul-is-zero-pair c = search needs
-
-mul-is-zero-pair-2 : tie.Need-mul-is-zero-pair-2 Inv-loop μ-loop
-mul-is-zero-pair-2 c = search needs
-
-shared-slice-read-is-zero-pair : tie.Need-shared-slice-read-is-zero-pair Inv-loop μ-loop
-shared-slice-read-is-zero-pair c = search needs
-
-mul-is-zero-pair-3 : tie.Need-mul-is-zero-pair-3 Inv-loop μ-loop
-mul-is-zero-pair-3 c = search needs
-
-add-is-zero-pair : tie.Need-add-is-zero-pair Inv-loop μ-loop
-add-is-zero-pair c = search needs
-
-mul-is-zero-pair-4 : tie.Need-mul-is-zero-pair-4 Inv-loop μ-loop
-mul-is-zero-pair-4 c = search needs
-
-shared-slice-read-is-zero-pair-2 : tie.Need-shared-slice-read-is-zero-pair-2 Inv-loop μ-loop
-shared-slice-read-is-zero-pair-2 c = search needs
-
-is-zero-pair-requires : tie.Need-is-zero-pair-requires Inv-loop μ-loop
-is-zero-pair-requires c κs = search needs
-
-returns : tie.Need-returns Inv-loop μ-loop
-returns c = search zero-fault
-
-add-i : tie.Need-add-i Inv-loop μ-loop
-add-i c = search needs
-
-loop-less : tie.Need-loop-less Inv-loop μ-loop
-loop-less c = search needs
-
-loop-again : tie.Need-loop-again Inv-loop μ-loop
-loop-again c = (search needs, search needs, search zero-on)
-
-returns-2 : tie.Need-returns-2 Inv-loop μ-loop
-returns-2 c = search zero-over
+μ-loop words count from i₀ i = definitionLimit - i
 
 pub zero-from-spec : {M : Type 1} → statement M
 zero-from-spec =
@@ -61,17 +24,17 @@ zero-from-spec =
     (tie.spec
     Inv-loop
     μ-loop
-    loop-holds
-    mul-is-zero-pair
-    mul-is-zero-pair-2
-    shared-slice-read-is-zero-pair
-    mul-is-zero-pair-3
-    add-is-zero-pair
-    mul-is-zero-pair-4
-    shared-slice-read-is-zero-pair-2
-    is-zero-pair-requires
-    returns
-    add-i
-    loop-less
-    loop-again
-    returns-2)
+    (λ c. (search needs, search needs, refl))
+    (λ c. search needs)
+    (λ c. search needs)
+    (λ c. search needs)
+    (λ c. search needs)
+    (λ c. search needs)
+    (λ c. search needs)
+    (λ c. search needs)
+    (λ c κs. search needs)
+    (λ c. search (zero-next, chosen, not-true))
+    (λ c. search needs)
+    (λ c. search needs)
+    (λ c. (search needs, search needs, search (zero-next, chosen, not-false)))
+    (λ c. search zero-over))

@@ -2,17 +2,5 @@ use borrow.Author.Needs.{needs}
 use Rattle.typing.proofs.keep.Statement.{statement}
 use Rattle.typing.proofs.keep.Tie as tie
 
-enum-told : tie.Need-enum-told
-enum-told c = search needs
-
-enum-told-2 : tie.Need-enum-told-2
-enum-told-2 c = search needs
-
-returns : tie.Need-returns
-returns c = rw (c .enum-told .given .1)
-
-returns-2 : tie.Need-returns-2
-returns-2 c = search needs
-
 pub keep-spec : {M : Type 1} → statement M
-keep-spec = tie.close (tie.spec enum-told enum-told-2 returns returns-2)
+keep-spec = tie.close (tie.spec (λ c. search needs) (λ c. search needs) (λ c. rw (c .enum-told .given .1)) (λ c. search needs))

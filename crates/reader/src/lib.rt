@@ -1,0 +1,304 @@
+// Reading a line of a text table: directives, conditions, operands. Words and a count stand for the definitions of the lines before.
+use basics::Refusal;
+use definitions::Cell;
+use definitions::Definition;
+use definitions::Meaning;
+use lines::Opening;
+use operands::DotsOperand;
+use operands::Operand;
+ghost use mathlib.Core.Path.{_≡_};
+ghost use mathlib.Core.Bool.{Bool·beq};
+ghost use Prim.Native.Nat.{_+_, _-_, _*_, _≤_, _<_};
+ghost use lib.ListN.{length};
+ghost use Rattle.basics.specs.Choice.{pick};
+ghost use Rattle.table.specs.Words.{definitions};
+ghost use Rattle.reader.specs.Conditions.{hasGlyph, hasCell};
+ghost use Rattle.reader.specs.Reader.{conditionOf, directiveOf, finished, dotsLine, aliasLine, glyphCondition, cellCondition, afterDirective, frontOf, ifHolds, readFrom, readLine};
+ghost use Rattle.reader.specs.Internal.{FrontWithin};
+
+// How many conditions a line may hold.
+const CONDITION_LIMIT: usize = 8;
+
+// What a directive word asks for: a definition by dots, of a byte or a character, typed or shown only; an alias; or a
+// condition, which holds where its test comes out as wanted.
+pub enum Directive {
+    Unknown,
+    ByDots { byte: bool, typed: bool },
+    ByAlias,
+    IfGlyph { wanted: bool },
+    IfCell { wanted: bool },
+}
+
+// A line as read: at fault, without effect, or a definition that is to take effect. A place is the number of bytes from
+// the fault, or from the definition's directive word, to the line's end.
+pub enum Reading {
+    Fault(Refusal, usize),
+    NoEffect,
+    Define(Definition, usize),
+}
+
+// A directive at the front of what is left of a line: read whole, or a condition, whether it holds and where the further
+// directive may begin.
+pub enum Front {
+    Whole(Reading),
+    Condition { holds: bool, rest: usize },
+}
+
+// Whether `ifGlyph` holds: the end of the alias walk has a cell exactly where rule 3 or 4 answers.
+fn has_glyph(words: &[u32], count: usize, c: u32) -> bool
+    requires { ⌜ 2 * count ≤ length (now words) ⌝ }
+    ensures { λ r. ⌜ r ≡ hasGlyph (definitions count (now (words .entry))) c ⌝ }
+{
+    if unicode::is_braille(c) {
+        return false;
+    }
+    let w = table::walk_from(words, count, unicode::local_of(c));
+    let end = w.cell;
+    match end {
+        Cell::Absent => false,
+        Cell::Dots(_) => true,
+    }
+}
+
+// Whether `ifCell` holds.
+fn has_cell(words: &[u32], count: usize, cell: u8) -> bool
+    requires { ⌜ 2 * count ≤ length (now words) ⌝ }
+    ensures { λ r. ⌜ r ≡ hasCell (definitions count (now (words .entry))) cell ⌝ }
+{
+    let mut i = 0;
+    while i < count {
+        if definitions::types_cell(table::meaning_of(words[2 * i + 1]), cell) {
+            return true;
+        }
+        i += 1;
+    }
+    false
+}
+
+// The directive that a word of a condition asks for.
+fn condition_of(w: &[u8]) -> Directive
+    ensures { λ r. ⌜ r ≡ conditionOf (now (w .entry)) ⌝ }
+{
+    if lines::same_bytes(w, b"ifGlyph") {
+        return Directive::IfGlyph { wanted: true };
+    }
+    if lines::same_bytes(w, b"ifNotGlyph") {
+        return Directive::IfGlyph { wanted: false };
+    }
+    if lines::same_bytes(w, b"ifCell") {
+        return Directive::IfCell { wanted: true };
+    }
+    if lines::same_bytes(w, b"ifNotCell") {
+        return Directive::IfCell { wanted: false };
+    }
+    Directive::Unknown
+}
+
+// The directive that a word asks for.
+fn directive_of(w: &[u8]) -> Directive
+    ensures { λ r. ⌜ r ≡ directiveOf (now (w .entry)) ⌝ }
+{
+    if lines::same_bytes(w, b"char") {
+        return Directive::ByDots {
+            byte: false,
+            typed: true,
+        };
+    }
+    if lines::same_bytes(w, b"glyph") {
+        return Directive::ByDots {
+            byte: false,
+            typed: false,
+        };
+    }
+    if lines::same_bytes(w, b"byte") {
+        return Directive::ByDots {
+            byte: true,
+            typed: false,
+        };
+    }
+    if lines::same_bytes(w, b"alias") {
+        return Directive::ByAlias;
+    }
+    condition_of(w)
+}
+
+// `reading`, or the fault of text behind the last operand.
+fn finish(line: &[u8], at: usize, reading: Reading) -> Reading
+    requires { ⌜ at ≤ length (now line) ⌝ }
+    ensures { λ r. ⌜ r ≡ finished (now (line .entry)) at reading ⌝ }
+{
+    if lines::is_over(line, at) {
+        return reading;
+    }
+    let w = lines::next_word(line, at);
+    Reading::Fault(Refusal::TrailingText, line.len() - w.start)
+}
+
+fn dots_meaning(typed: bool, dots: u8) -> Meaning
+    ensures { λ r. ⌜ r ≡ pick typed (Meaning.Typed dots) (Meaning.Shown dots) ⌝ }
+{
+    if typed {
+        return Meaning::Typed(dots);
+    }
+    Meaning::Shown(dots)
+}
+
+// `char`, `glyph` and `byte` from behind the directive word on.
+fn dots_line(line: &[u8], at: usize, byte: bool, typed: bool, left: usize) -> Reading
+    requires { ⌜ at ≤ length (now line) ⌝ }
+    ensures { λ r. ⌜ r ≡ dotsLine byte typed (now (line .entry)) at left ⌝ }
+{
+    match operands::character_at(line, at, byte) {
+        Operand::Fault(refusal, place) => Reading::Fault(refusal, place),
+        Operand::Value(c, after) => match operands::dots_operand_at(line, after, true) {
+            DotsOperand::Fault(refusal, place) => Reading::Fault(refusal, place),
+            DotsOperand::Value(dots, end) => {
+                let meaning = dots_meaning(typed, dots);
+                let d = Definition {
+                    character: c,
+                    meaning,
+                };
+                finish(line, end, Reading::Define(d, left))
+            }
+        },
+    }
+}
+
+// `alias` from behind the directive word on.
+fn alias_line(line: &[u8], at: usize, left: usize) -> Reading
+    requires { ⌜ at ≤ length (now line) ⌝ }
+    ensures { λ r. ⌜ r ≡ aliasLine (now (line .entry)) at left ⌝ }
+{
+    match operands::character_at(line, at, false) {
+        Operand::Fault(refusal, place) => Reading::Fault(refusal, place),
+        Operand::Value(c, after) => match operands::character_at(line, after, false) {
+            Operand::Fault(refusal, place) => Reading::Fault(refusal, place),
+            Operand::Value(target, end) => {
+                let d = Definition {
+                    character: c,
+                    meaning: Meaning::Alias(target),
+                };
+                finish(line, end, Reading::Define(d, left))
+            }
+        },
+    }
+}
+
+// `ifGlyph` and `ifNotGlyph` from behind the directive word on.
+fn glyph_condition(words: &[u32], count: usize, line: &[u8], at: usize, wanted: bool) -> Front
+    requires { ⌜ (2 * count ≤ length (now words)) × (at ≤ length (now line)) ⌝ }
+    ensures { λ r. ⌜ r ≡ glyphCondition (definitions count (now (words .entry))) wanted (now (line .entry)) at ⌝ }
+    ensures { λ r. ⌜ FrontWithin r 1 (length (now (line .entry))) ⌝ }
+{
+    match operands::character_at(line, at, false) {
+        Operand::Fault(refusal, place) => Front::Whole(Reading::Fault(refusal, place)),
+        Operand::Value(c, after) => {
+            let holds = has_glyph(words, count, c) == wanted;
+            Front::Condition { holds, rest: after }
+        }
+    }
+}
+
+// `ifCell` and `ifNotCell` from behind the directive word on.
+fn cell_condition(words: &[u32], count: usize, line: &[u8], at: usize, wanted: bool) -> Front
+    requires { ⌜ (2 * count ≤ length (now words)) × (at ≤ length (now line)) ⌝ }
+    ensures { λ r. ⌜ r ≡ cellCondition (definitions count (now (words .entry))) wanted (now (line .entry)) at ⌝ }
+    ensures { λ r. ⌜ FrontWithin r 1 (length (now (line .entry))) ⌝ }
+{
+    match operands::dots_operand_at(line, at, false) {
+        DotsOperand::Fault(refusal, place) => Front::Whole(Reading::Fault(refusal, place)),
+        DotsOperand::Value(cell, after) => {
+            let holds = has_cell(words, count, cell) == wanted;
+            Front::Condition { holds, rest: after }
+        }
+    }
+}
+
+// What stands behind a directive word, with room for so many conditions; the word begins `left` bytes before the line's end.
+fn after_directive(
+    words: &[u32],
+    count: usize,
+    line: &[u8],
+    room: usize,
+    directive: Directive,
+    at: usize,
+    left: usize,
+) -> Front
+    requires { ⌜ (2 * count ≤ length (now words)) × (at ≤ length (now line)) ⌝ }
+    ensures { λ r. ⌜ r ≡ afterDirective (definitions count (now (words .entry))) room (now (line .entry)) directive at left ⌝ }
+    ensures { λ r. ⌜ FrontWithin r room (length (now (line .entry))) ⌝ }
+{
+    match directive {
+        Directive::Unknown => Front::Whole(Reading::Fault(Refusal::UnknownDirective, left)),
+        Directive::ByDots { byte, typed } => Front::Whole(dots_line(line, at, byte, typed, left)),
+        Directive::ByAlias => Front::Whole(alias_line(line, at, left)),
+        Directive::IfGlyph { wanted } => {
+            if room == 0 {
+                return Front::Whole(Reading::Fault(Refusal::TooManyConditions, left));
+            }
+            glyph_condition(words, count, line, at, wanted)
+        }
+        Directive::IfCell { wanted } => {
+            if room == 0 {
+                return Front::Whole(Reading::Fault(Refusal::TooManyConditions, left));
+            }
+            cell_condition(words, count, line, at, wanted)
+        }
+    }
+}
+
+// The directive at the front of what is left of a line.
+fn front_of(words: &[u32], count: usize, line: &[u8], room: usize) -> Front
+    requires { ⌜ 2 * count ≤ length (now words) ⌝ }
+    ensures { λ r. ⌜ r ≡ frontOf (definitions count (now (words .entry))) room (now (line .entry)) ⌝ }
+    ensures { λ r. ⌜ FrontWithin r room (length (now (line .entry))) ⌝ }
+{
+    if lines::is_over(line, 0) {
+        return Front::Whole(Reading::Fault(Refusal::MissingOperand, 0));
+    }
+    let w = lines::next_word(line, 0);
+    let start = w.start;
+    let end = w.end;
+    let directive = directive_of(&line[start..end]);
+    after_directive(words, count, line, room, directive, end, line.len() - start)
+}
+
+// Behind a failed condition only a fault counts.
+fn if_holds(holds: bool, reading: Reading) -> Reading
+    ensures { λ r. ⌜ r ≡ ifHolds holds reading ⌝ }
+{
+    if holds {
+        return reading;
+    }
+    match reading {
+        Reading::Fault(refusal, place) => Reading::Fault(refusal, place),
+        Reading::NoEffect => Reading::NoEffect,
+        Reading::Define(_, _) => Reading::NoEffect,
+    }
+}
+
+// A directive, with room for so many conditions: it calls itself on the rest of the line.
+fn read_from(words: &[u32], count: usize, line: &[u8], room: usize) -> Reading
+    requires { ⌜ 2 * count ≤ length (now words) ⌝ }
+    ensures { λ r. ⌜ r ≡ readFrom (definitions count (now (words .entry))) room (now (line .entry)) ⌝ }
+{
+    match front_of(words, count, line, room) {
+        Front::Whole(reading) => reading,
+        Front::Condition { holds, rest } => if_holds(
+            holds,
+            read_from(words, count, &line[rest..], room - 1),
+        ),
+    }
+}
+
+// A whole line, without its end.
+pub fn read_line(words: &[u32], count: usize, line: &[u8]) -> Reading
+    requires { ⌜ 2 * count ≤ length (now words) ⌝ }
+    ensures { λ r. ⌜ r ≡ readLine (definitions count (now (words .entry))) (now (line .entry)) ⌝ }
+{
+    match lines::open_line(line) {
+        Opening::Fault(refusal, left) => Reading::Fault(refusal, left),
+        Opening::Skip => Reading::NoEffect,
+        Opening::Directive => read_from(words, count, line, CONDITION_LIMIT),
+    }
+}
