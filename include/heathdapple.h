@@ -31,8 +31,16 @@ uint64_t heathdapple_page(const uint32_t *words, size_t words_length, const uint
 /* The character that a cell types on a compiled table: 0 for nothing, else the character + 1, or a refusal with its place. */
 uint64_t heathdapple_typed(const uint32_t *words, size_t words_length, uint8_t cell);
 
+/* The same for all 256 cells at once, in the first 256 elements of entries; those past them stay. Answers 0, or a refusal with
+ * its place, which writes nothing: 2 for entries under 256, before all others, then as above. */
+uint64_t heathdapple_entries(const uint32_t *words, size_t words_length, uint32_t *entries, size_t entries_length);
+
 /* The cell of a VGA attribute byte by an attributes table's text, or the refusal of that text with its line. */
 uint64_t heathdapple_attribute_cell(const uint8_t *text, size_t text_length, uint8_t byte);
+
+/* The same for all 256 attribute bytes at once, in the first 256 bytes of cells; those past them stay. Answers the count of `dot`
+ * lines, or a refusal with its line, which writes nothing: 2 for cells under 256, before all others, then as above. */
+uint64_t heathdapple_attribute_cells(const uint8_t *text, size_t text_length, uint8_t *cells, size_t cells_length);
 
 #ifdef __cplusplus
 }

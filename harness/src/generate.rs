@@ -1,7 +1,7 @@
 //! Texts, tables and characters at random: made by the grammar of document 01, then damaged in part.
 
 use crate::random::Random;
-use crate::reference::{self, Condition, Place, LINE_BYTES, PAIRS, TEXT_BYTES, WORDS};
+use crate::reference::{self, Condition, Meanings, Pairs, Place, LINE_BYTES, PAIRS, TEXT_BYTES, WORDS};
 
 /// Characters that the rules know: bases, characters with a base, stand-ins and characters with one.
 const KNOWN: [u32; 40] = [
@@ -225,6 +225,11 @@ impl Maker<'_> {
         bytes.push(b')');
     }
 
+    /// Whether a condition holds with the lines so far.
+    fn holds(&self, condition: Condition) -> bool {
+        Pairs(&self.words[..2 * self.definitions]).holds(condition)
+    }
+
     /// A condition, which holds more often than not.
     fn condition(&mut self, bytes: &mut Vec<u8>) {
         let wish = self.random.percent(70);
@@ -233,14 +238,14 @@ impl Maker<'_> {
         let words = if self.random.percent(50) {
             let character = self.draw();
             if wish {
-                plain = reference::holds(&self.words[..2 * self.definitions], Condition::Glyph(character, true));
+                plain = self.holds(Condition::Glyph(character, true));
             }
             self.write_character(&mut operand, character, true);
             ["ifNotGlyph", "ifGlyph"]
         } else {
             let cell = self.cell();
             if wish {
-                plain = reference::holds(&self.words[..2 * self.definitions], Condition::Cell(cell, true));
+                plain = self.holds(Condition::Cell(cell, true));
             }
             self.write_cell(&mut operand, cell);
             ["ifNotCell", "ifCell"]

@@ -12,8 +12,28 @@ pub struct Side {
     pub look_up: fn(&[u32], u32) -> Result<Shown, Refusal>,
     pub page: Page,
     pub typed: fn(&[u32], u8) -> Result<Option<u32>, Refusal>,
+    pub entries: fn(&[u32], &mut [u32]) -> Result<(), Refusal>,
     pub attribute_cell: fn(&[u8], u8) -> Result<u8, Refusal>,
+    pub attribute_cells: fn(&[u8], &mut [u8]) -> Result<u32, Refusal>,
 }
+
+impl Side {
+    /// One cell's entry as the call for all cells writes it.
+    pub fn entry(&self, words: &[u32], cell: u8) -> Result<u32, Refusal> {
+        (self.typed)(words, cell).map(reference::entry)
+    }
+}
+
+pub const LIBRARY: Side = Side {
+    name: "library",
+    compile: heathdapple::compile,
+    look_up: heathdapple::look_up,
+    page: heathdapple::page,
+    typed: heathdapple::typed,
+    entries: heathdapple::entries,
+    attribute_cell: heathdapple::attribute_cell,
+    attribute_cells: heathdapple::attribute_cells,
+};
 
 pub const REFERENCE: Side = Side {
     name: "reference",
@@ -21,7 +41,9 @@ pub const REFERENCE: Side = Side {
     look_up: reference::look_up,
     page: reference::page,
     typed: reference::typed,
+    entries: reference::entries,
     attribute_cell: reference::attribute_cell,
+    attribute_cells: reference::attribute_cells,
 };
 
 /// There is no hashed attributes table: eight places need none.
@@ -31,25 +53,8 @@ pub const HASHED: Side = Side {
     look_up: hashed::look_up,
     page: hashed::page,
     typed: hashed::typed,
-    attribute_cell: reference::attribute_cell,
+    entries: hashed::entries,
+    ..REFERENCE
 };
 
-#[cfg(feature = "library")]
-pub const LIBRARY: Side = Side {
-    name: "library",
-    compile: crate::library::compile,
-    look_up: crate::library::look_up,
-    page: crate::library::page,
-    typed: crate::library::typed,
-    attribute_cell: crate::library::attribute_cell,
-};
-
-/// Every side that is built, the reference first.
-pub fn sides() -> Vec<Side> {
-    vec![
-        REFERENCE,
-        HASHED,
-        #[cfg(feature = "library")]
-        LIBRARY,
-    ]
-}
+pub const SIDES: [Side; 3] = [LIBRARY, REFERENCE, HASHED];

@@ -1,10 +1,10 @@
 //! The library against the reference on random texts, tables and pages: answers and lent memory, byte by byte.
-//! HEATHDAPPLE_SEED names another seed. Built without the library, the hashed side takes its place.
+//! HEATHDAPPLE_SEED names another seed.
 
 use harness::generate;
 use harness::random::Random;
 use harness::reference::{self, Refusal, PAIRS, WORDS};
-use harness::side::{Side, HASHED};
+use harness::side::{Side, HASHED, LIBRARY, REFERENCE};
 use std::fmt::Debug;
 use std::process::exit;
 use std::time::Instant;
@@ -22,19 +22,24 @@ const ENOUGH: u64 = 10;
 const GUARD: usize = 16;
 const RULES: [usize; 15] = [1, 3, 4, 5, 6, 7, 8, 9, 19, 20, 21, 22, 23, 24, 25];
 
-const CALLS: [&str; 5] = ["compile", "look_up", "page", "typed", "attributes"];
+/// Lengths of a buffer for all 256 cells or bytes.
+const LENGTHS: [usize; 4] = [0, 255, 256, 300];
+
+const CALLS: [&str; 7] = ["compile", "look_up", "page", "typed", "entries", "attribute", "attributes"];
 const COMPILE: usize = 0;
 const LOOK_UP: usize = 1;
 const PAGE: usize = 2;
 const TYPED: usize = 3;
-const ATTRIBUTES: usize = 4;
+const ENTRIES: usize = 4;
+const ATTRIBUTE_CELL: usize = 5;
+const ATTRIBUTE_CELLS: usize = 6;
 
 struct Run {
     sides: Vec<Side>,
     random: Random,
     case: String,
-    calls: [u64; 5],
-    refusals: [[u64; 17]; 5],
+    calls: [u64; CALLS.len()],
+    refusals: [[u64; 17]; CALLS.len()],
     rules: [u64; 32],
     links: u32,
     texts: u64,
@@ -125,39 +130,101 @@ impl Run {
         (all, start)
     }
 
-    /// Compiles into `length` words that lie among others; answers the slice and the count.
+    /// One call that writes nothing.
+    fn asking<A: Debug + PartialEq>(
+        &mut self,
+        call: usize,
+        run: impl Fn(&Side) -> Result<A, Refusal>,
+        input: impl Fn(&Side) -> String,
+    ) -> Result<A, Refusal> {
+        let answer = run(&REFERENCE);
+        self.tally(call, &answer);
+        for side in self.sides.clone() {
+            let other = run(&side);
+            if other != answer {
+                self.differ(&side, call, &answer, other, || input(&side));
+            }
+        }
+        answer
+    }
+
+    /// One call that fills a lent slice, whose guards lie before and behind it: answers and memory, guards too.
+    fn filling<T: Copy + PartialEq, A: Debug + PartialEq>(
+        &mut self,
+        call: usize,
+        before: &[T],
+        run: impl Fn(&Side, &mut [T]) -> Result<A, Refusal>,
+        input: impl Fn(&Side) -> String,
+    ) -> (Result<A, Refusal>, Vec<T>) {
+        let inside = GUARD..before.len() - GUARD;
+        let filled = |side: &Side| {
+            let mut memory = before.to_vec();
+            (run(side, &mut memory[inside.clone()]), memory)
+        };
+        let (answer, expected) = filled(&REFERENCE);
+        self.tally(call, &answer);
+        for side in self.sides.clone() {
+            let (other, got) = filled(&side);
+            if other != answer || got != expected {
+                let first = (0..got.len()).find(|k| got[*k] != expected[*k]).map(|k| k as isize - GUARD as isize);
+                let length = inside.len();
+                self.differ(&side, call, &answer, other, || {
+                    format!("slice of {length}, first element that differs {first:?}\n  {}", input(&side))
+                });
+            }
+        }
+        (answer, expected[inside].to_vec())
+    }
+
+    /// Compiles into `length` words; answers them and the count.
     fn compile(&mut self, text: &[u8], length: usize) -> (Vec<u32>, Option<usize>) {
         let before = self.random_words(length + 2 * GUARD);
         let (bytes, start) = self.place_bytes(text);
         let text = &bytes[start..start + text.len()];
-        let inside = GUARD..GUARD + length;
-        let mut expected = before.clone();
-        let answer = reference::compile(text, &mut expected[inside.clone()]);
-        self.tally(COMPILE, &answer);
+        let call = |side: &Side, words: &mut [u32]| (side.compile)(text, words);
+        let (answer, words) = self.filling(COMPILE, &before, call, |side| {
+            let compiled = |side: &Side, text: &[u8]| {
+                let mut words = before[GUARD..GUARD + length].to_vec();
+                ((side.compile)(text, &mut words), words)
+            };
+            let small = shrink(text, |text| compiled(&REFERENCE, text) != compiled(side, text));
+            let [answer, other] = [&REFERENCE, side].map(|side| compiled(side, &small).0);
+            format!("text \"{}\"\n  smaller \"{}\": {answer:?} and {other:?}", shown(text), shown(&small))
+        });
+        (words, answer.ok().map(|count| count as usize))
+    }
+
+    /// A call for all 256 cells or bytes in buffers of several lengths, and beside the 256 single calls of each side.
+    fn all_at_once<T: Copy + Debug + Default + PartialEq, A: Debug + PartialEq>(
+        &mut self,
+        [one_call, all_call]: [usize; 2],
+        pattern: &[T],
+        one: impl Fn(&Side, u8) -> Result<T, Refusal>,
+        all: impl Fn(&Side, &mut [T]) -> Result<A, Refusal>,
+        input: impl Fn() -> String,
+    ) {
+        for length in LENGTHS {
+            let _ = self.filling(all_call, &pattern[..length + 2 * GUARD], &all, |_| input());
+        }
+        let at_once = |side: &Side| {
+            let mut filled = [T::default(); 256];
+            all(side, &mut filled).map(|_| filled)
+        };
+        let expected = at_once(&REFERENCE);
         for side in self.sides.clone() {
-            let mut got = before.clone();
-            let other = (side.compile)(text, &mut got[inside.clone()]);
-            if other != answer || got != expected {
-                let differs = |text: &[u8]| {
-                    let (mut ours, mut theirs) = (before.clone(), before.clone());
-                    let answer = reference::compile(text, &mut ours[inside.clone()]);
-                    answer != (side.compile)(text, &mut theirs[inside.clone()]) || ours != theirs
-                };
-                let first = (0..got.len()).find(|k| got[*k] != expected[*k]).map(|k| k as isize - GUARD as isize);
-                self.differ(&side, COMPILE, answer, other, || {
-                    let small = shrink(text, differs);
-                    let (mut ours, mut theirs) = (before.clone(), before.clone());
-                    let answer = reference::compile(&small, &mut ours[inside.clone()]);
-                    let other = (side.compile)(&small, &mut theirs[inside.clone()]);
-                    format!(
-                        "{length} words, first word that differs {first:?}\n  text \"{}\"\n  smaller \"{}\": {answer:?} and {other:?}",
-                        shown(text),
-                        shown(&small)
-                    )
-                });
+            let filled = at_once(&side);
+            for byte in 0..=255 {
+                let answer = expected.map(|filled| filled[usize::from(byte)]);
+                let single = one(&side, byte);
+                self.tally(one_call, &answer);
+                if single != answer {
+                    self.differ(&side, one_call, answer, single, || format!("cell or byte {byte:02X}, {}", input()));
+                }
+                if single != filled.map(|filled| filled[usize::from(byte)]) {
+                    self.differ(&side, all_call, single, filled, || format!("single call for {byte:02X}, {}", input()));
+                }
             }
         }
-        (expected[inside].to_vec(), answer.ok().map(|count| count as usize))
     }
 
     fn table_shown(words: &[u32]) -> String {
@@ -167,47 +234,35 @@ impl Run {
     }
 
     fn look_up(&mut self, words: &[u32], character: u32) {
-        let answer = reference::look_up(words, character);
-        self.tally(LOOK_UP, &answer);
+        let input = |_: &Side| format!("character {character:X}, {}", Self::table_shown(words));
+        let answer = self.asking(LOOK_UP, |side| (side.look_up)(words, character), input);
         if let Ok(shown) = answer {
             self.rules[usize::from(shown.rule)] += 1;
             self.links = self.links.max(shown.links);
         }
-        for side in self.sides.clone() {
-            let other = (side.look_up)(words, character);
-            if other != answer {
-                self.differ(&side, LOOK_UP, answer, other, || {
-                    format!("character {character:X}, {}", Self::table_shown(words))
-                });
-            }
-        }
     }
 
     fn typed(&mut self, words: &[u32], cell: u8) {
-        let answer = reference::typed(words, cell);
-        self.tally(TYPED, &answer);
-        for side in self.sides.clone() {
-            let other = (side.typed)(words, cell);
-            if other != answer {
-                self.differ(&side, TYPED, answer, other, || format!("cell {cell:02X}, {}", Self::table_shown(words)));
-            }
-        }
+        let input = |_: &Side| format!("cell {cell:02X}, {}", Self::table_shown(words));
+        let _ = self.asking(TYPED, |side| (side.typed)(words, cell), input);
+    }
+
+    fn entries(&mut self, words: &[u32]) {
+        let length = *self.random.pick(&LENGTHS);
+        let before = self.random_words(length + 2 * GUARD);
+        let call = |side: &Side, entries: &mut [u32]| (side.entries)(words, entries);
+        let _ = self.filling(ENTRIES, &before, call, |_| Self::table_shown(words));
     }
 
     fn typed_all(&mut self, words: &[u32]) {
-        let (answer, entries) = reference::typing(words);
-        for cell in 0..=255 {
-            let answer = answer.map(|()| entries[usize::from(cell)]);
-            self.tally(TYPED, &answer);
-            for side in self.sides.clone() {
-                let other = (side.typed)(words, cell);
-                if other != answer {
-                    self.differ(&side, TYPED, answer, other, || {
-                        format!("cell {cell:02X}, {}", Self::table_shown(words))
-                    });
-                }
-            }
-        }
+        let pattern = self.random_words(LENGTHS[3] + 2 * GUARD);
+        self.all_at_once(
+            [TYPED, ENTRIES],
+            &pattern,
+            |side, cell| side.entry(words, cell),
+            |side, entries| (side.entries)(words, entries),
+            || Self::table_shown(words),
+        );
     }
 
     fn page(&mut self, words: &[u32], characters: &[u32], cells_length: usize, rules_length: usize) {
@@ -280,6 +335,7 @@ impl Run {
             _ => {
                 let cell = self.random.byte();
                 self.typed(words, cell);
+                self.entries(words);
             }
         }
     }
@@ -324,6 +380,7 @@ impl Run {
                 _ => words[2 * self.random.below(count) + 1] as u8,
             };
             self.typed(&words, cell);
+            self.entries(&words);
         }
         if self.random.percent(4) {
             let length = self.short_length();
@@ -339,40 +396,46 @@ impl Run {
         }
     }
 
-    fn attributes(&mut self, text: &[u8], bytes: &[u8]) {
+    /// Single bytes of an attributes text, and all in a buffer of any length.
+    fn attributes(&mut self, text: &[u8]) {
         let (placed, start) = self.place_bytes(text);
         let text = &placed[start..start + text.len()];
-        let (answer, places) = reference::attributes(text);
-        for byte in bytes {
-            let answer = answer.map(|_| reference::cell_of_byte(&places, *byte));
-            self.tally(ATTRIBUTES, &answer);
-            for side in self.sides.clone() {
-                let other = (side.attribute_cell)(text, *byte);
-                if other != answer {
-                    self.differ(&side, ATTRIBUTES, answer, other, || {
-                        let small = shrink(text, |text| {
-                            reference::attribute_cell(text, *byte) != (side.attribute_cell)(text, *byte)
-                        });
-                        format!("byte {byte:02X}, text \"{}\"\n  smaller \"{}\"", shown(text), shown(&small))
-                    });
-                }
-            }
+        for _ in 0..2 {
+            let byte = self.random.byte();
+            let _ = self.asking(
+                ATTRIBUTE_CELL,
+                |side| (side.attribute_cell)(text, byte),
+                |side| {
+                    let cell = |side: &Side, text: &[u8]| (side.attribute_cell)(text, byte);
+                    let small = shrink(text, |text| cell(&REFERENCE, text) != cell(side, text));
+                    format!("byte {byte:02X}, text \"{}\"\n  smaller \"{}\"", shown(text), shown(&small))
+                },
+            );
         }
+        let length = *self.random.pick(&LENGTHS);
+        let before = self.random_bytes(length + 2 * GUARD);
+        let call = |side: &Side, cells: &mut [u8]| (side.attribute_cells)(text, cells);
+        let _ = self.filling(ATTRIBUTE_CELLS, &before, call, |_| shown(text));
+    }
+
+    fn attributes_all(&mut self, text: &[u8]) {
+        let pattern = self.random_bytes(LENGTHS[3] + 2 * GUARD);
+        self.all_at_once(
+            [ATTRIBUTE_CELL, ATTRIBUTE_CELLS],
+            &pattern,
+            |side, byte| (side.attribute_cell)(text, byte),
+            |side, cells| (side.attribute_cells)(text, cells),
+            || shown(text),
+        );
     }
 }
 
-#[cfg(feature = "library")]
 fn sides_of(case: u64) -> Vec<Side> {
     // The hashed side is looked at now and then, for the benchmark's sake.
     match case % 16 {
-        0 => vec![harness::side::LIBRARY, HASHED],
-        _ => vec![harness::side::LIBRARY],
+        0 => vec![LIBRARY, HASHED],
+        _ => vec![LIBRARY],
     }
-}
-
-#[cfg(not(feature = "library"))]
-fn sides_of(_case: u64) -> Vec<Side> {
-    vec![HASHED]
 }
 
 fn main() {
@@ -385,8 +448,8 @@ fn main() {
         sides: Vec::new(),
         random: Random::new(0),
         case: String::new(),
-        calls: [0; 5],
-        refusals: [[0; 17]; 5],
+        calls: [0; CALLS.len()],
+        refusals: [[0; 17]; CALLS.len()],
         rules: [0; 32],
         links: 0,
         texts: 0,
@@ -436,11 +499,18 @@ fn main() {
         run.page(&words, &[0x400, 0xF041, 0x401], 3, 3);
         run.compile(format!("{text}alias \\u0400 a\n").as_bytes(), WORDS);
     });
-    part("tables", 6, TABLES, &|run, _| {
+    part("tables", 6, TABLES, &|run, case| {
         let mut words = vec![0; run.length_of_slice()];
         let alphabet = generate::any_table(&mut run.random, &mut words[..WORDS]);
         for _ in 0..2 {
             run.lent(&words, &alphabet);
+        }
+        if case % 40 == 0 {
+            run.typed_all(&words);
+        }
+        if case % 400 == 0 {
+            let length = run.short_length();
+            run.typed_all(&words[..length]);
         }
     });
     part("any two bytes", 8, 1 << 16, &|run, case| {
@@ -474,11 +544,10 @@ fn main() {
     });
     part("attributes texts", 7, ATTRIBUTES_TEXTS, &|run, case| {
         let text = generate::attributes_text(&mut run.random);
-        let bytes: Vec<u8> = match case % 25 {
-            0 => (0..=255).collect(),
-            _ => vec![run.random.byte(), run.random.byte()],
-        };
-        run.attributes(&text, &bytes);
+        match case % 25 {
+            0 => run.attributes_all(&text),
+            _ => run.attributes(&text),
+        }
     });
 
     println!("texts of tables: {}, accepted {} ({} %)", run.texts, run.accepted, 100 * run.accepted / run.texts);

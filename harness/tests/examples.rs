@@ -1,7 +1,8 @@
 //! The worked examples and edges of document 01 and the settled readings, with the answers written out, on every side.
 
 use harness::reference::{self, Place, Refusal, Shown, WORDS};
-use harness::side::sides;
+use harness::side::SIDES;
+use std::fmt::Debug;
 
 const SMALL: &str = "char a 1\nchar b (12)\nglyph A 17\nalias \\u00E4 a\nalias \\u03B1 \\u00E4\nchar ? 1456\n";
 
@@ -19,7 +20,7 @@ fn pair(refusal: Refusal) -> (u32, u32) {
 
 /// Compiles on every side and looks at the answer and the words.
 fn expect_bytes(text: &[u8], answer: Answer, pairs: Option<&[[u32; 2]]>) {
-    for side in sides() {
+    for side in SIDES {
         let mut words = vec![0xA5A5_A5A5; WORDS + 3];
         let got = (side.compile)(text, &mut words).map_err(pair);
         assert_eq!(got, answer, "{}: {:?}", side.name, String::from_utf8_lossy(text));
@@ -49,7 +50,7 @@ fn refuses_at(text: &str, number: u32, line: u32) {
 
 fn shows(text: &str, character: u32, cell: u8, rule: u8, links: u32) {
     let words = compiled(text.as_bytes());
-    for side in sides() {
+    for side in SIDES {
         let shown = Ok(Shown { cell, rule, links });
         assert_eq!((side.look_up)(&words, character), shown, "{}: {text:?} {character:X}", side.name);
         let (mut cells, mut rules) = ([9, 9], [9, 9]);
@@ -60,7 +61,7 @@ fn shows(text: &str, character: u32, cell: u8, rule: u8, links: u32) {
 
 fn types(text: &str, cell: u8, character: Option<u32>) {
     let words = compiled(text.as_bytes());
-    for side in sides() {
+    for side in SIDES {
         assert_eq!((side.typed)(&words, cell), Ok(character), "{}: {text:?} {cell:X}", side.name);
     }
 }
@@ -118,7 +119,7 @@ fn lengths() {
     accepts(&"\n".repeat(65_536), &[]);
     refuses_at(&"\n".repeat(65_537), 1, 0);
     refuses_at(&format!("{}x", "\n".repeat(65_535)), 5, 65_536);
-    for side in sides() {
+    for side in SIDES {
         for length in [0, 1, 2047] {
             let mut words = vec![5; length];
             let short = Err(Refusal { number: 2, place: 0 });
@@ -346,7 +347,7 @@ fn lent_tables() {
         &[[1, 0x0300_0002], [2, 0x0300_0003]],
     ];
     for pairs in sound {
-        for side in sides() {
+        for side in SIDES {
             assert_eq!((side.page)(&table(pairs), &[], &mut [], &mut []), Ok(()), "{} {pairs:X?}", side.name);
         }
     }
@@ -370,7 +371,7 @@ fn lent_tables() {
     ];
     for (pairs, place) in faulty {
         let words = table(pairs);
-        for side in sides() {
+        for side in SIDES {
             let fault = Err((15, place));
             assert_eq!(
                 (side.page)(&words, &[0xD800], &mut [0], &mut [0]).map_err(pair),
@@ -381,14 +382,13 @@ fn lent_tables() {
             assert_eq!((side.look_up)(&words, 0xD800).map_err(pair), fault.map(|()| unreachable!()), "{}", side.name);
             assert_eq!((side.typed)(&words, 0).map_err(pair), fault.map(|()| unreachable!()), "{}", side.name);
         }
-        assert_eq!(reference::typing(&words).1, [None; 256]);
     }
 }
 
 #[test]
 fn pages() {
     let words = compiled(SMALL.as_bytes());
-    for side in sides() {
+    for side in SIDES {
         let (mut cells, mut rules) = ([9; 4], [8; 5]);
         assert_eq!((side.page)(&words, &[], &mut [], &mut []), Ok(()), "{}", side.name);
         assert_eq!((side.page)(&words, &[0x61, 0x2809, 0xF061], &mut cells, &mut rules), Ok(()), "{}", side.name);
@@ -404,11 +404,100 @@ fn pages() {
     }
 }
 
+/// A call for all 256 and its single calls. Buffers of several lengths hold a pattern: a refusal leaves all of it, an
+/// answer what is past 256.
+fn filled<T: Copy + PartialEq + Debug, A: Copy + PartialEq + Debug>(
+    side: &str,
+    pattern: T,
+    call: impl Fn(&mut [T]) -> Result<A, Refusal>,
+    single: impl Fn(u8) -> Result<T, Refusal>,
+    answer: Result<(A, [T; 256]), (u32, u32)>,
+) {
+    for byte in 0..=255 {
+        let element = answer.map(|(_, elements)| elements[usize::from(byte)]);
+        assert_eq!(single(byte).map_err(pair), element, "{side} {byte:X}");
+    }
+    for length in [0, 1, 255, 256, 300] {
+        let mut buffer = vec![pattern; length];
+        let got = call(&mut buffer).map_err(pair);
+        match answer {
+            _ if length < 256 => assert_eq!((got, &buffer), (Err((2, 0)), &vec![pattern; length]), "{side}"),
+            Err(refusal) => assert_eq!((got, &buffer), (Err(refusal), &vec![pattern; length]), "{side}"),
+            Ok((count, elements)) => {
+                assert_eq!((got, &buffer[..256]), (Ok(count), &elements[..]), "{side}");
+                assert_eq!(buffer[256..], vec![pattern; length - 256], "{side}");
+            }
+        }
+    }
+}
+
+fn entries_are(words: &[u32], answer: Result<&[(usize, u32)], (u32, u32)>) {
+    let answer = answer.map(|typing| {
+        let mut entries = [0; 256];
+        typing.iter().for_each(|(cell, entry)| entries[*cell] = *entry);
+        ((), entries)
+    });
+    for side in SIDES {
+        let all = |entries: &mut [u32]| (side.entries)(words, entries);
+        filled(side.name, 0xA5A5_A5A5, all, |cell| side.entry(words, cell), answer);
+    }
+}
+
+#[test]
+fn entries() {
+    let of = |text: &str| compiled(text.as_bytes());
+    entries_are(&of(""), Ok(&[]));
+    entries_are(&of(SMALL), Ok(&[(0x01, 0x62), (0x03, 0x63), (0x39, 0x40)]));
+    entries_are(&of("char \\x00 0\nchar \\U0010FFFF 12345678\n"), Ok(&[(0, 1), (255, 0x11_0000)]));
+    entries_are(&of("glyph x 1\nchar a 1\nchar b 1\nbyte c 2\nalias d a\n"), Ok(&[(1, 0x62)]));
+    entries_are(&of("char \\u2801 12\nchar \\uF041 3\n"), Ok(&[(3, 0x2802), (4, 0xF042)]));
+    let mut words = of(SMALL);
+    entries_are(&words[..2047], Err((2, 0)));
+    entries_are(&[], Err((2, 0)));
+    words[4] = 0x61;
+    entries_are(&words, Err((15, 2)));
+    words[0] = 0xD800;
+    entries_are(&words, Err((15, 0)));
+    words.extend([1, 2, 3]);
+    words[..WORDS].fill(0);
+    entries_are(&words, Ok(&[]));
+    words[WORDS - 1] = 1;
+    entries_are(&words, Err((15, 1023)));
+}
+
+fn attribute_cells_are(text: &[u8], answer: Result<(u32, [u8; 256]), (u32, u32)>) {
+    for side in SIDES {
+        let all = |cells: &mut [u8]| (side.attribute_cells)(text, cells);
+        filled(side.name, 0xA5, all, |byte| (side.attribute_cell)(text, byte), answer);
+    }
+}
+
+#[test]
+fn attribute_cells() {
+    attribute_cells_are(b"", Ok((0, [0; 256])));
+    attribute_cells_are(b"# a\r\n\n \t", Ok((0, [0; 256])));
+    // Dot 1 is 1 and goes by bit 04; dot 4 is 8 and is down where bit 10 is on.
+    let red_and_blue = |byte: usize| match (byte / 4 % 2, byte / 16 % 2) {
+        (0, 0) => 8,
+        (0, _) => 0,
+        (_, 0) => 9,
+        _ => 1,
+    };
+    attribute_cells_are(b"dot 1 =fg-red\n#\ndot 4 ~bg-blue", Ok((2, std::array::from_fn(red_and_blue))));
+    let blink = |byte: usize| if byte < 128 { 0 } else { 0x40 };
+    attribute_cells_are(b"\tdot 7 =blink # on", Ok((1, std::array::from_fn(blink))));
+    attribute_cells_are(&[b'\n'; 65_536], Ok((0, [0; 256])));
+    attribute_cells_are(&[b'\n'; 65_537], Err((1, 0)));
+    attribute_cells_are(b"dot 1 =fg-red\ndot 2 on\n", Err((16, 2)));
+    attribute_cells_are(b"dot 1 =fg-red\ndot 1 =blink\nx", Err((11, 2)));
+    attribute_cells_are(b"\n\nchar a 1", Err((5, 3)));
+}
+
 #[test]
 fn attributes() {
     let text = b"dot 1 =fg-red\ndot 4 ~bg-blue\n";
     assert_eq!(reference::attributes(text).0, Ok(2));
-    for side in sides() {
+    for side in SIDES {
         for (byte, cell) in [(0x04, 0x09), (0x10, 0x00), (0x00, 0x08), (0x14, 0x01)] {
             assert_eq!((side.attribute_cell)(text, byte), Ok(cell), "{} {byte:X}", side.name);
         }
@@ -445,12 +534,15 @@ fn attributes() {
             assert_eq!(answer, Err((number, line)), "{}: {:?}", side.name, String::from_utf8_lossy(text));
             assert_eq!(reference::attributes(text).1, [Place::Unnamed; 8]);
         }
-        let names = ["fg-blue", "fg-green", "fg-red", "fg-bright", "bg-blue", "bg-green", "bg-red", "blink"];
-        let on: String = (0..8).map(|d| format!("dot {} ={} # x\r\n", d + 1, names[d])).collect();
-        let off: String = (0..8).rev().map(|d| format!("\tdot\t{} ~{}\n\n", d + 1, names[d])).collect();
-        for byte in 0..=255 {
-            assert_eq!((side.attribute_cell)(on.as_bytes(), byte), Ok(byte), "{}", side.name);
-            assert_eq!((side.attribute_cell)(off.as_bytes(), byte), Ok(!byte), "{}", side.name);
-        }
     }
+}
+
+#[test]
+fn attribute_names() {
+    let names = ["fg-blue", "fg-green", "fg-red", "fg-bright", "bg-blue", "bg-green", "bg-red", "blink"];
+    let on: String = (0..8).map(|d| format!("dot {} ={} # x\r\n", d + 1, names[d])).collect();
+    let off: String = (0..8).rev().map(|d| format!("\tdot\t{} ~{}\n\n", d + 1, names[d])).collect();
+    let same = |byte: usize| byte as u8;
+    attribute_cells_are(on.as_bytes(), Ok((8, std::array::from_fn(same))));
+    attribute_cells_are(off.as_bytes(), Ok((8, std::array::from_fn(|byte| !same(byte)))));
 }

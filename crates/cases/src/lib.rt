@@ -9,7 +9,13 @@ use table::TABLE_WORDS;
 // Two words more than a table has.
 const WORDS: usize = TABLE_WORDS + 2;
 
-fn page_case(words: &[u32], question: &[u8]) -> Text {
+fn compile_case(text: &[u8]) -> Text {
+    let mut words = [0u32; TABLE_WORDS];
+    let answer = compiler::compile(text, &mut words);
+    replies::compile_text(answer)
+}
+
+fn page_answer(words: &[u32], question: &[u8]) -> Text {
     let mut numbers = [0u32; 18];
     let n = fields::put_numbers(&mut numbers, question);
     if 18 < n {
@@ -18,31 +24,31 @@ fn page_case(words: &[u32], question: &[u8]) -> Text {
     replies::page_text(words, &numbers[0..n])
 }
 
-// A question to a table that was compiled: the answer to that, a lookup, what a cell types, or a page.
-fn table_answer(kind: usize, compiled: Compiled, words: &[u32], question: &[u8]) -> Text {
+// A question to a table: a lookup, what a cell types, or a page.
+fn table_answer(call: usize, words: &[u32], question: &[u8]) -> Text {
     let n = fields::number(question);
-    match kind {
-        0 => replies::compile_text(compiled),
-        1 => replies::look_text(words, n),
-        2 => replies::type_text(words, (n % 256) as u8),
-        _ => page_case(words, question),
+    match call {
+        0 => replies::look_text(words, n),
+        1 => replies::type_text(words, (n % 256) as u8),
+        _ => page_answer(words, question),
     }
 }
 
-fn table_case(kind: usize, text: &[u8], question: &[u8]) -> Text {
+// A question to the table that the text compiles to.
+fn table_case(call: usize, text: &[u8], question: &[u8]) -> Text {
     let mut words = [0u32; TABLE_WORDS];
-    let compiled = compiler::compile(text, &mut words);
-    table_answer(kind, compiled, &words, question)
+    compiler::compile(text, &mut words);
+    table_answer(call, &words, question)
 }
 
-// A lookup on so many words, which the text lists; those beyond a table hold what no table could.
-fn lent_case(length: usize, text: &[u8], c: u32) -> Text {
+// A question to so many words, which the text lists; those beyond a table hold what no table could.
+fn lent_case(length: usize, call: usize, text: &[u8], question: &[u8]) -> Text {
     let mut words = [0u32; WORDS];
     words[TABLE_WORDS] = 7;
     words[TABLE_WORDS + 1] = 7;
     fields::put_numbers(&mut words, text);
     let n = length % (WORDS + 1);
-    replies::look_text(&words[0..n], c)
+    table_answer(call, &words[0..n], question)
 }
 
 fn left_answer(text: &[u8], words: &mut [u32]) -> Text {
@@ -95,21 +101,25 @@ fn report_case(number: u32, line: u32) -> Text {
     replies::compile_text(Compiled::Refused(refusal_of(number), line as usize))
 }
 
+// The answer to a case by its fields. The kinds that ask a table stand in threes, in the order of `table_answer`.
 fn answer_to(name: &[u8], text: &[u8], question: &[u8]) -> Text {
     let n = fields::number(question);
     let kind = fields::place_of(
         name,
-        b"compile show type page lent short beyond left attributes dots report",
+        b"show type page lent lent_type lent_page short short_type short_page \
+        beyond beyond_type beyond_page compile left attributes dots report",
     );
+    let call = kind % 3;
     match kind {
-        0 | 1 | 2 | 3 => table_case(kind, text, question),
-        4 => lent_case(TABLE_WORDS, text, n),
-        5 => lent_case(TABLE_WORDS - 1, text, n),
-        6 => lent_case(WORDS, text, n),
-        7 => left_case(text, n),
-        8 => attributes_case(text),
-        9 => dots_case(text, n),
-        10 => report_case(fields::number(text), n),
+        0 | 1 | 2 => table_case(call, text, question),
+        3 | 4 | 5 => lent_case(TABLE_WORDS, call, text, question),
+        6 | 7 | 8 => lent_case(TABLE_WORDS - 1, call, text, question),
+        9 | 10 | 11 => lent_case(WORDS, call, text, question),
+        12 => compile_case(text),
+        13 => left_case(text, n),
+        14 => attributes_case(text),
+        15 => dots_case(text, n),
+        16 => report_case(fields::number(text), n),
         _ => answers::text_of(b"unknown kind"),
     }
 }

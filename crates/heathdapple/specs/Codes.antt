@@ -1,11 +1,16 @@
 -- What the exported calls answer, as one number of 64 bits.
-use Prim.Native.Nat.{ℕ, _+_, _*_, _^_, min, _-_}
-use mathlib.Core.List.{List}
-use Rattle.basics.specs.Choice.{ifCharacter}
+use Prim.Native.Nat.{ℕ, zero, suc, _+_, _*_, _^_, min, _-_}
+use mathlib.Core.List.{List, [], _∷_, map}
+use lib.ListN.{length}
+use lib.Dec.{ltb}
+use Rattle.basics.specs.Choice.{pick, ifCharacter}
 use Rattle.basics.specs.Refusals.{Reply, answered, refused}
 use Rattle.basics.specs.declared.Maybe.{Maybe}
 use Rattle.lookup.specs.declared.Answer.{Answer}
-use Rattle.typing.specs.Typing.{typingReply, typedBy}
+use Rattle.lookup.specs.Calls.{over}
+use Rattle.typing.specs.declared.Entry.{Entry}
+use Rattle.typing.specs.Typing.{typingReply, typingEntries, typedBy}
+use Rattle.attributes.specs.declared.Place.{Place}
 use Rattle.attributes.specs.Cells.{attributeCell}
 use Rattle.attributes.specs.Compile.{compiledAttributes, attributesReply, outcomePlaces}
 
@@ -18,7 +23,7 @@ abbrev pub codeOf : {A : Type 0} → (A → ℕ) → Reply A → ℕ
 codeOf code (answered a) = code a
 codeOf code (refused number place) = refusalCode number place
 
--- compiling: the count of definitions
+-- compiling: the count of definitions, of `dot` lines
 abbrev pub compileCode : Reply ℕ → ℕ
 compileCode reply = codeOf (λ count. count) reply
 
@@ -29,9 +34,9 @@ answerCode a = a .cell + 2 ^ 8 * a .rule + 2 ^ 16 * a .links
 abbrev pub lookupCode : Reply Answer → ℕ
 lookupCode reply = codeOf answerCode reply
 
--- page: 0
-abbrev pub pageCode : Reply (Unit {0}) → ℕ
-pageCode reply = codeOf (λ u. 0) reply
+-- a call that fills buffers and has no value: 0
+abbrev pub fillingCode : Reply (Unit {0}) → ℕ
+fillingCode reply = codeOf (λ u. 0) reply
 
 -- typing: 0 for nothing, else the character + 1
 abbrev pub characterCode : Maybe → ℕ
@@ -43,3 +48,43 @@ typedCode ws cell = codeOf (λ u. characterCode (typedBy ws cell)) (typingReply 
 -- attributes: the cell of the byte
 abbrev pub attributeCode : List ℕ → ℕ → ℕ
 attributeCode text byte = codeOf (λ lines. attributeCell (outcomePlaces (compiledAttributes text)) byte) (attributesReply (compiledAttributes text))
+
+-- ---- for all 256 cells, for all 256 bytes
+
+-- as many cells as eight dots have, and as many attribute bytes
+abbrev pub cellCount : ℕ
+cellCount = 256
+
+-- a buffer of fewer elements is refused before all else
+abbrev pub withRoom : {A : Type 0} → ℕ → Reply A → Reply A
+withRoom room reply = pick (ltb room cellCount) (refused 2 0) reply
+
+-- a buffer after the call: what is written stands at its front, and a refusal writes nothing
+abbrev pub after : {A : Type 0} → Reply A → List ℕ → List ℕ → List ℕ
+after (answered a) new old = over new old
+after (refused number place) new old = old
+
+-- the entries of all cells
+abbrev pub entriesReply : List ℕ → ℕ → Reply (Unit {0})
+entriesReply ws room = withRoom room (typingReply ws)
+
+abbrev pub entryCode : Entry → ℕ
+entryCode e = characterCode (e .types)
+
+abbrev pub entriesAfter : List ℕ → List ℕ → List ℕ
+entriesAfter ws old = after (entriesReply ws (length old)) (map entryCode (typingEntries ws)) old
+
+-- the cells of all attribute bytes
+abbrev pub cellsReply : List ℕ → ℕ → Reply ℕ
+cellsReply text room = withRoom room (attributesReply (compiledAttributes text))
+
+-- so many numbers, one after another
+unfoldable pub numbersFrom : ℕ → ℕ → List ℕ
+numbersFrom first zero = []
+numbersFrom first (suc count) = first ∷ numbersFrom (first + 1) count
+
+abbrev pub cellsOf : List Place → List ℕ
+cellsOf places = map (λ (byte : ℕ). attributeCell places byte) (numbersFrom 0 cellCount)
+
+abbrev pub cellsAfter : List ℕ → List ℕ → List ℕ
+cellsAfter text old = after (cellsReply text (length old)) (cellsOf (outcomePlaces (compiledAttributes text))) old

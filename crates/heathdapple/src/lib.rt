@@ -1,18 +1,22 @@
 // The calls exported for C and Rust. Each answers one number; specs/Codes.antt says how.
+use attributes::Place;
 use basics::Filling;
 use basics::Maybe;
 use basics::Refusal;
 use lines::Compiled;
 use lookup::Answer;
 use lookup::Looked;
+use typing::Entry;
 ghost use mathlib.Core.Path.{_≡_};
+ghost use mathlib.Core.List.{map};
 ghost use Prim.Native.Nat.{_≤_};
 ghost use lib.ListN.{length};
 ghost use Rattle.basics.specs.Refusals.{numberOf};
 ghost use Rattle.definitions.specs.Effects.{definitionLimit};
 ghost use Rattle.compiler.specs.Compile.{compileReply, compileWords};
-ghost use Rattle.lookup.specs.Calls.{lookupReply, pagePlan, Pages};
-ghost use Rattle.heathdapple.specs.Codes.{refusalCode, compileCode, answerCode, lookupCode, pageCode, characterCode, typedCode, attributeCode};
+ghost use Rattle.lookup.specs.Calls.{lookupReply, pagePlan, over, Pages};
+ghost use Rattle.heathdapple.specs.Codes.{refusalCode, compileCode, answerCode, lookupCode, fillingCode, characterCode, typedCode, attributeCode, cellCount, entriesReply, entryCode, entriesAfter, cellsReply, cellsOf, cellsAfter};
+ghost use Rattle.heathdapple.specs.Internal.{EntriesFit};
 
 // A refusal as one number.
 fn refusal_code(refusal: Refusal, place: usize) -> u64
@@ -64,7 +68,7 @@ pub extern "C" fn heathdapple_page(
     cells: &mut [u8],
     rules: &mut [u8],
 ) -> u64
-    ensures { λ r. ⌜ Pages pageCode (pagePlan (now (words .entry)) (now (characters .entry)) (length (now (cells .entry))) (length (now (rules .entry)))) (now (characters .entry)) (now (cells .entry)) (now (rules .entry)) r (now (cells .exit)) (now (rules .exit)) ⌝ }
+    ensures { λ r. ⌜ Pages fillingCode (pagePlan (now (words .entry)) (now (characters .entry)) (length (now (cells .entry))) (length (now (rules .entry)))) (now (characters .entry)) (now (cells .entry)) (now (rules .entry)) r (now (cells .exit)) (now (rules .exit)) ⌝ }
 {
     match lookup::page(words, characters, cells, rules) {
         Filling::Filled => 0,
@@ -101,6 +105,44 @@ pub extern "C" fn heathdapple_typed(words: &[u32], cell: u8) -> u64
     }
 }
 
+// As many cells as eight dots have, and as many attribute bytes.
+const CELL_COUNT: usize = 256;
+
+// Writes what each of the 256 entries types.
+fn put_entries(entries: [Entry; 256], codes: &mut [u32])
+    requires { ⌜ (cellCount ≤ length (now codes)) × EntriesFit entries ⌝ }
+    ensures { λ r. ⌜ now (codes .exit) ≡ over (map entryCode entries) (now (codes .entry)) ⌝ }
+{
+    let mut i = 0;
+    while i < CELL_COUNT {
+        let e = entries[i];
+        let typed = e.types;
+        codes[i] = character_code(typed) as u32;
+        i += 1;
+    }
+}
+
+// What each of the 256 cells types, at the front of `entries`, as heathdapple_typed answers it: 0, or the refusal with its place.
+#[no_mangle]
+pub extern "C" fn heathdapple_entries(words: &[u32], entries: &mut [u32]) -> u64
+    ensures code { λ r. ⌜ r ≡ fillingCode (entriesReply (now (words .entry)) (length (now (entries .entry)))) ⌝ }
+    ensures entries { λ r. ⌜ now (entries .exit) ≡ entriesAfter (now (words .entry)) (now (entries .entry)) ⌝ }
+{
+    if entries.len() < CELL_COUNT {
+        return refusal_code(Refusal::ShortSlice, 0);
+    }
+    let typing = typing::typed_entries(words);
+    let answer = typing.answer;
+    let typed = typing.entries;
+    match answer {
+        Filling::Filled => {
+            put_entries(typed, entries);
+            0
+        }
+        Filling::Refused(refusal, place) => refusal_code(refusal, place),
+    }
+}
+
 // The cell of an attribute byte by an attributes text, or the refusal of that text with its line.
 #[no_mangle]
 pub extern "C" fn heathdapple_attribute_cell(text: &[u8], byte: u8) -> u64
@@ -111,6 +153,39 @@ pub extern "C" fn heathdapple_attribute_cell(text: &[u8], byte: u8) -> u64
     let places = table.places;
     match answer {
         Compiled::Accepted(_) => attributes::attribute_cell(places, byte) as u64,
+        Compiled::Refused(refusal, line) => refusal_code(refusal, line),
+    }
+}
+
+// Writes the cell of each of the 256 attribute bytes.
+fn put_cells(places: [Place; 8], cells: &mut [u8])
+    requires { ⌜ cellCount ≤ length (now cells) ⌝ }
+    ensures { λ r. ⌜ now (cells .exit) ≡ over (cellsOf places) (now (cells .entry)) ⌝ }
+{
+    let mut i = 0;
+    while i < CELL_COUNT {
+        cells[i] = attributes::attribute_cell(places, i as u8);
+        i += 1;
+    }
+}
+
+// The cells of all attribute bytes by an attributes text, at the front of `cells`: the count of `dot` lines, or the refusal with its line.
+#[no_mangle]
+pub extern "C" fn heathdapple_attribute_cells(text: &[u8], cells: &mut [u8]) -> u64
+    ensures code { λ r. ⌜ r ≡ compileCode (cellsReply (now (text .entry)) (length (now (cells .entry)))) ⌝ }
+    ensures cells { λ r. ⌜ now (cells .exit) ≡ cellsAfter (now (text .entry)) (now (cells .entry)) ⌝ }
+{
+    if cells.len() < CELL_COUNT {
+        return refusal_code(Refusal::ShortSlice, 0);
+    }
+    let table = attributes::compile_attributes(text);
+    let answer = table.answer;
+    let places = table.places;
+    match answer {
+        Compiled::Accepted(lines) => {
+            put_cells(places, cells);
+            lines as u64
+        }
         Compiled::Refused(refusal, line) => refusal_code(refusal, line),
     }
 }

@@ -19,7 +19,7 @@ use Rattle.table.specs.declared.Walked.{Walked}
 use Rattle.table.specs.Internal.{walkWithCell}
 use Rattle.lookup.specs.declared.Answer.{Answer}
 use Rattle.lookup.specs.Rules.{explicitOf, candidates, ifDots, choose, rulesFrom3, passed}
-use Rattle.lookup.specs.Internal.{laterCandidates}
+use Rattle.lookup.specs.Internal.{lastCandidates, lastAnswer, laterCandidates}
 
 -- ---- what choosing keeps
 
@@ -36,6 +36,13 @@ choose-chosen rule (Dots dots ∷ os) links = record { from = omega arith; to = 
 choose-chosen rule (Absent ∷ os) links =
     let rest = choose-chosen (rule + 1) os links in
     record { from = omega arith; to = omega arith; links = rest .links }
+
+-- the links go through all choices, and no choice goes by them
+choose-links : (rule : ℕ) (os : List Cell) (links : ℕ) → choose rule os links ≡ record { cell = choose rule os 0 .cell; rule = choose rule os 0 .rule; links = links }
+unfolding choose
+choose-links rule [] links = refl
+choose-links rule (Dots dots ∷ os) links = refl
+choose-links rule (Absent ∷ os) links = choose-links (rule + 1) os links
 
 pub rules-chosen : (T : Table) (c : ℕ) → Chosen 3 6 (walk T c .links) (rulesFrom3 T c)
 unfolding rulesFrom3 candidates
@@ -56,6 +63,10 @@ pub ruleset on-cell = (cell-none, cell-some)
 -- the explicit cell of a character that a call answered
 pub asked : (T : Table) {m o : Maybe} {r : Cell} → m ≡ o → r ≡ explicitOf T m → r ≡ explicitOf T o
 asked T p q = rw (← p) q
+
+-- rules 7 to 9 as they were asked before
+pub as-asked : (T : Table) (last : Answer) (links : ℕ) → last ≡ lastAnswer T → record { cell = last .cell; rule = last .rule; links = links } ≡ choose 7 (lastCandidates T) links
+as-asked T last links e = rw e (sym (choose-links 7 (lastCandidates T) links))
 
 -- rules 3 and 4 as the walk of a character decides them; w is what a call answered of it
 module _ (T : Table) (c : ℕ) (w : Walked) (from : w ≡ walkWithCell T c) where

@@ -1,3 +1,4 @@
 pub mod Choices
 pub mod WholeWalks
 pub mod Replies
+pub mod Buffers

@@ -1,12 +1,11 @@
 -- What the lookup call and the page call answer and write, as their tests and calls decide it.
-use Prim.Native.Nat.{ℕ, suc, _+_, _≤_, _<_}
+use Prim.Native.Nat.{ℕ, _+_, _≤_, _<_}
 use mathlib.Core.Path.{_≡_, refl, sym, _∙_}
 use mathlib.Core.Bool.{Bool, true, false, not}
-use mathlib.Core.List.{List, [], _∷_, _++_, map, map-append, append-assoc}
-use native.Mathlib.Omega.{arith}
+use mathlib.Core.List.{List, map}
 use native.Mathlib.Numerals.{add-one}
-use lib.ListN.{length, getD, take, drop, set, length-map, drop-of-length-le}
-use lib.Seq.{drop-cons, take-suc, take-all, set-at, length-take-le}
+use lib.ListN.{length, getD, drop, drop-of-length-le}
+use lib.Seq.{drop-cons}
 use borrow.Author.Tests.{le-ltb, not-true, not-false}
 use Rattle.basics.specs.Choice.{pick}
 use Rattle.basics.specs.Refusals.{Reply, answered, refused, andThen}
@@ -53,25 +52,7 @@ module _ (x : NoScalar) (cs : List ℕ) (i : ℕ) (inv : x ≡ firstNoScalar (dr
   unfolding firstNoScalar
   first-none h = sym (inv ∙ rw (drop-of-length-le cs h))
 
--- ---- the buffers
-
--- a buffer whose first i bytes are filled
-abbrev pub filledTo : (ℕ → ℕ) → List ℕ → ℕ → List ℕ → List ℕ
-filledTo f cs i old = map f (take i cs) ++ drop i old
-
-module _ (f : ℕ → ℕ) (cs : List ℕ) (old : List ℕ) (i : ℕ) where
-  pub filled-more : {new : List ℕ} {v : ℕ} → i < length cs → length cs ≤ length old → new ≡ filledTo f cs i old → v ≡ f (getD cs i 0) → set new i v ≡ filledTo f cs (i + 1) old
-  filled-more h k e p =
-      let g : i < length old = omega arith in
-      let front : length (map f (take i cs)) ≡ i = length-map (take i cs) f ∙ length-take-le i cs (omega arith) in
-      rw (e, p, add-one i, drop-cons old i 0 g, take-suc cs i 0 h, map-append f (take i cs) (getD cs i 0 ∷ []))
-      (set-at (map f (take i cs)) (getD old i 0) (drop (suc i) old) (f (getD cs i 0)) i front
-      ∙ sym (append-assoc (map f (take i cs)) (f (getD cs i 0) ∷ []) (drop (suc i) old)))
-
-  pub filled-all : {new : List ℕ} → i ≤ length cs → length cs ≤ i → new ≡ filledTo f cs i old → new ≡ over (map f cs) old
-  filled-all h g e =
-      let p : i ≡ length cs = omega arith in
-      e ∙ rw (p, take-all (length cs) cs (omega arith), length-map cs f)
+-- ---- what a page writes for a character
 
 pub same-cell : {a b : Answer} → a ≡ b → a .cell ≡ b .cell
 same-cell e = rw e

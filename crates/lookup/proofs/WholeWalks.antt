@@ -1,15 +1,15 @@
 -- On a lent table no walk is cut short, and no lookup counts more links than a table may have definitions.
 use Prim.Native.Nat.{ℕ, _≤_}
-use mathlib.Core.Path.{_≡_, refl}
+use mathlib.Core.Path.{_≡_, refl, sym}
 use mathlib.Core.Bool.{Bool, true, false}
 use mathlib.Core.List.{List, []}
 use native.Mathlib.Omega.{arith}
 use Rattle.basics.specs.Choice.{pick}
 use Rattle.basics.specs.Refusals.{Reply, answered, refused, andThen}
-use Rattle.basics.proofs.Tests.{either}
+use Rattle.basics.proofs.Tests.{by-cases}
 use Rattle.unicode.specs.Characters.{isScalar, isBraille, localOf}
 use Rattle.definitions.specs.declared.Definition.{Definition}
-use Rattle.definitions.specs.Definitions.{table, walk, aliases}
+use Rattle.definitions.specs.Definitions.{table}
 use Rattle.definitions.specs.Effects.{definitionLimit}
 use Rattle.definitions.proofs.Admission.{Admits, admits-limit, aliases-length, whole-walk}
 use Rattle.table.specs.Check.{lentTable}
@@ -18,31 +18,37 @@ use Rattle.lookup.specs.declared.Answer.{Answer}
 use Rattle.lookup.specs.declared.Looked.{Looked}
 use Rattle.lookup.specs.declared.Looked.the-variants.{Answered}
 use Rattle.lookup.specs.Rules.{lookup}
-use Rattle.lookup.specs.Calls.{lookupReply, lookedReply, LentWhole}
+use Rattle.lookup.specs.Calls.{lookupReply, lookedReply, Followed, LentLinks}
 use Rattle.lookup.proofs.Choices.{rules-chosen}
 
-pub lent-whole : (ws : List ℕ) (c : ℕ) → LentWhole (lentTable ws) c
-lent-whole ws c = go (lentTable ws) refl
-  where
-    go : (r : Reply (List Definition)) → lentTable ws ≡ r → LentWhole r c
-    go (answered ds) p = whole-walk ds (lent-admits ws ds p) c
-    go (refused number place) p = tt
-
-table-links : (ds : List Definition) → Admits [] ds → (c : ℕ) → lookup (table ds) c .links ≤ definitionLimit
+lookup-followed : (ds : List Definition) → Admits [] ds → (c : ℕ) → Followed ds c (lookup (table ds) c .links)
 unfolding lookup
-table-links ds h c =
-    let w : walk (table ds) (localOf c) .links ≤ aliases ds = whole-walk ds h (localOf c) .within in
-    either (λ (a : Answer). a .links ≤ definitionLimit) (isBraille c) (omega arith) (omega (arith, rules-chosen (table ds) (localOf c) .links, aliases-length ds, admits-limit ds h))
+lookup-followed ds h c =
+    let w = whole-walk ds h (localOf c) in
+    let chosen = rules-chosen (table ds) (localOf c) .links in
+    by-cases (isBraille c)
+    (λ p. rw p (record { walked = rw p; whole = w; within = omega arith }))
+    (λ p. rw p (record { walked = rw p chosen; whole = w; within = omega (arith, chosen, w .within) }))
 
 picked-answer : (scalar : Bool) {a b : Answer} → pick scalar (answered a) (refused 14 0) ≡ answered b → a ≡ b
 picked-answer true e = cc
 picked-answer false e = cc
 
--- r is what the lookup call answered
+-- r is what the lookup call answers
+pub lent-links : (ws : List ℕ) (c : ℕ) {r : Reply Answer} → r ≡ lookupReply ws c → LentLinks (lentTable ws) c r
+unfolding lookupReply
+lent-links ws c {r} e = go (lentTable ws) r refl e
+  where
+    go : (lent : Reply (List Definition)) (r : Reply Answer) → lentTable ws ≡ lent → r ≡ andThen lent (λ ds. pick (isScalar c) (answered (lookup (table ds) c)) (refused 14 0)) → LentLinks lent c r
+    go (answered ds) (answered a) p e = rw (picked-answer (isScalar c) (sym e)) at (lookup-followed ds (lent-admits ws ds p) c)
+    go (answered ds) (refused number place) p e = tt
+    go (refused number place) r p e = tt
+
+-- such links are as few as the definitions of a table
 pub shown-small : (ws : List ℕ) (c : ℕ) {r : Looked} {a : Answer} → lookedReply r ≡ lookupReply ws c → r ≡ Answered a → a .links ≤ definitionLimit
 unfolding lookupReply
-shown-small ws c {r} {a} p q = go (lentTable ws) refl (rw (← p, q))
+shown-small ws c {r} {a} p q = go (lentTable ws) refl (rw (← p, q)) (rw q at (lent-links ws c p))
   where
-    go : (lent : Reply (List Definition)) → lentTable ws ≡ lent → andThen lent (λ ds. pick (isScalar c) (answered (lookup (table ds) c)) (refused 14 0)) ≡ answered a → a .links ≤ definitionLimit
-    go (answered ds) e h = rw (picked-answer (isScalar c) h) at (table-links ds (lent-admits ws ds e) c)
-    go (refused number place) e h = absurd (let z : _≡_ {A = ℕ} 0 1 = cc in omega arith)
+    go : (lent : Reply (List Definition)) → lentTable ws ≡ lent → andThen lent (λ ds. pick (isScalar c) (answered (lookup (table ds) c)) (refused 14 0)) ≡ answered a → LentLinks lent c (answered a) → a .links ≤ definitionLimit
+    go (answered ds) e h f = omega (arith, f .within, aliases-length ds, admits-limit ds (lent-admits ws ds e))
+    go (refused number place) e h f = absurd (let z : _≡_ {A = ℕ} 0 1 = cc in omega arith)

@@ -1,5 +1,5 @@
 -- What the lookup call and the page call answer and write. Order of refusals: 2, 15, 14.
-use Prim.Native.Nat.{ℕ, _+_}
+use Prim.Native.Nat.{ℕ, _+_, _≤_}
 use mathlib.Core.Path.{_≡_}
 use mathlib.Core.Bool.{_||_}
 use mathlib.Core.List.{List, [], _∷_, _++_, map}
@@ -7,9 +7,9 @@ use lib.ListN.{length, drop}
 use lib.Dec.{ltb}
 use Rattle.basics.specs.Choice.{pick}
 use Rattle.basics.specs.Refusals.{numberOf, Reply, answered, refused, andThen}
-use Rattle.unicode.specs.Characters.{isScalar}
+use Rattle.unicode.specs.Characters.{isScalar, isBraille, localOf}
 use Rattle.definitions.specs.declared.Definition.{Definition}
-use Rattle.definitions.specs.Definitions.{table, WholeWalk}
+use Rattle.definitions.specs.Definitions.{table, walk, aliases, WholeWalk}
 use Rattle.table.specs.Check.{lentTable}
 use Rattle.lookup.specs.Rules.{lookup}
 use Rattle.lookup.specs.declared.Answer.{Answer}
@@ -27,10 +27,17 @@ abbrev pub lookedReply : Looked → Reply Answer
 lookedReply (L.Answered a) = answered a
 lookedReply (L.Refused refusal place) = refused (numberOf refusal) place
 
--- what is promised of the links beside: on a compiled table no walk is cut short
-abbrev pub LentWhole : Reply (List Definition) → ℕ → Type 0
-LentWhole (answered ds) c = WholeWalk ds c
-LentWhole (refused number place) c = Unit {0}
+-- "the links followed", as a lookup answers them: rule 1 follows none; else they are the whole walk of the character as it stands after rule 2
+pub record Followed (ds : List Definition) (c links : ℕ) : Type 0 where
+  pub walked : links ≡ pick (isBraille c) 0 (walk (table ds) (localOf c) .links)
+  pub whole : WholeWalk ds (localOf c)
+  pub within : links ≤ aliases ds
+
+-- what is promised of the links of an answer on the table that was lent
+abbrev pub LentLinks : Reply (List Definition) → ℕ → Reply Answer → Type 0
+LentLinks (answered ds) c (answered a) = Followed ds c (a .links)
+LentLinks (answered ds) c (refused number place) = Unit {0}
+LentLinks (refused number place) c reply = Unit {0}
 
 -- the first character that is no scalar value, the first of the list at i
 unfoldable pub firstNoScalar : List ℕ → ℕ → NoScalar

@@ -10,12 +10,11 @@ ghost use mathlib.Core.List.{map};
 ghost use Prim.Native.Nat.{_+_, _*_, _≤_, _<_};
 ghost use lib.ListN.{length};
 ghost use Rattle.basics.specs.Refusals.{fillingReply};
-ghost use Rattle.unicode.specs.Characters.{localOf};
 ghost use Rattle.table.specs.Words.{tableOf};
 ghost use Rattle.table.specs.Check.{lentTable};
 ghost use Rattle.lookup.specs.Rules.{explicitOf, choose, rulesFrom3, lookup};
-ghost use Rattle.lookup.specs.Calls.{lookupReply, lookedReply, LentWhole, firstNoScalar, pagePlan, over, Pages};
-ghost use Rattle.lookup.specs.Internal.{lastCandidates, laterCandidates};
+ghost use Rattle.lookup.specs.Calls.{lookupReply, lookedReply, LentLinks, firstNoScalar, pagePlan, over, Pages};
+ghost use Rattle.lookup.specs.Internal.{lastAnswer, laterCandidates};
 
 // A cell, the number of the rule that gave it, and the length of the alias walk.
 pub struct Answer {
@@ -47,35 +46,35 @@ fn explicit_of(words: &[u32], count: usize, other: Maybe) -> Cell
     }
 }
 
-// Rules 7 to 9.
-fn last_rules(words: &[u32], count: usize, links: usize) -> Answer
+// Rules 7 to 9, which go by no character: asked once for all of a page.
+fn last_rules(words: &[u32], count: usize) -> Answer
     requires { ⌜ 2 * count ≤ length (now words) ⌝ }
-    ensures { λ r. ⌜ r ≡ choose 7 (lastCandidates (tableOf count (now (words .entry)))) links ⌝ }
+    ensures { λ r. ⌜ r ≡ lastAnswer (tableOf count (now (words .entry))) ⌝ }
 {
     if let Cell::Dots(cell) = table::explicit_cell(words, count, 0xFFFD) {
         return Answer {
             cell,
             rule: 7,
-            links,
+            links: 0,
         };
     }
     if let Cell::Dots(cell) = table::explicit_cell(words, count, 0x3F) {
         return Answer {
             cell,
             rule: 8,
-            links,
+            links: 0,
         };
     }
     Answer {
         cell: 255,
         rule: 9,
-        links,
+        links: 0,
     }
 }
 
-// Rules 5 to 9.
-fn later_rules(words: &[u32], count: usize, c: u32, links: usize) -> Answer
-    requires { ⌜ 2 * count ≤ length (now words) ⌝ }
+// Rules 5 to 9; `last` is what rules 7 to 9 answer.
+fn later_rules(words: &[u32], count: usize, c: u32, links: usize, last: Answer) -> Answer
+    requires { ⌜ (2 * count ≤ length (now words)) × (last ≡ lastAnswer (tableOf count (now words))) ⌝ }
     ensures { λ r. ⌜ r ≡ choose 5 (laterCandidates (tableOf count (now (words .entry))) c) links ⌝ }
 {
     match explicit_of(words, count, unicode::base_of(c)) {
@@ -90,21 +89,25 @@ fn later_rules(words: &[u32], count: usize, c: u32, links: usize) -> Answer
                 rule: 6,
                 links,
             },
-            Cell::Absent => last_rules(words, count, links),
+            Cell::Absent => Answer {
+                cell: last.cell,
+                rule: last.rule,
+                links,
+            },
         },
     }
 }
 
 // Rules 3 to 9, for a character as it stands after rule 2.
-fn rules_from_3(words: &[u32], count: usize, c: u32) -> Answer
-    requires { ⌜ 2 * count ≤ length (now words) ⌝ }
+fn rules_from_3(words: &[u32], count: usize, c: u32, last: Answer) -> Answer
+    requires { ⌜ (2 * count ≤ length (now words)) × (last ≡ lastAnswer (tableOf count (now words))) ⌝ }
     ensures { λ r. ⌜ r ≡ rulesFrom3 (tableOf count (now (words .entry))) c ⌝ }
 {
     let w = table::walk_from(words, count, c);
     let links = w.links;
     let end = w.cell;
     match end {
-        Cell::Absent => later_rules(words, count, c, links),
+        Cell::Absent => later_rules(words, count, c, links, last),
         Cell::Dots(cell) => {
             if links == 0 {
                 return Answer {
@@ -123,8 +126,8 @@ fn rules_from_3(words: &[u32], count: usize, c: u32) -> Answer
 }
 
 // The answer for a scalar value, by all the rules.
-pub fn answer_of(words: &[u32], count: usize, c: u32) -> Answer
-    requires { ⌜ 2 * count ≤ length (now words) ⌝ }
+fn answer_of(words: &[u32], count: usize, c: u32, last: Answer) -> Answer
+    requires { ⌜ (2 * count ≤ length (now words)) × (last ≡ lastAnswer (tableOf count (now words))) ⌝ }
     ensures { λ r. ⌜ r ≡ lookup (tableOf count (now (words .entry))) c ⌝ }
 {
     if unicode::is_braille(c) {
@@ -134,7 +137,7 @@ pub fn answer_of(words: &[u32], count: usize, c: u32) -> Answer
             links: 0,
         };
     }
-    let a = rules_from_3(words, count, unicode::local_of(c));
+    let a = rules_from_3(words, count, unicode::local_of(c), last);
     if unicode::is_private(c) {
         return Answer {
             cell: a.cell,
@@ -148,7 +151,7 @@ pub fn answer_of(words: &[u32], count: usize, c: u32) -> Answer
 // The lookup call: any slice, any number.
 pub fn look_up(words: &[u32], c: u32) -> Looked
     ensures answer { λ r. ⌜ lookedReply r ≡ lookupReply (now (words .entry)) c ⌝ }
-    ensures links { λ r. ⌜ LentWhole (lentTable (now (words .entry))) (localOf c) ⌝ }
+    ensures links { λ r. ⌜ LentLinks (lentTable (now (words .entry))) c (lookedReply r) ⌝ }
 {
     if words.len() < TABLE_WORDS {
         return Looked::Refused(Refusal::ShortSlice, 0);
@@ -157,7 +160,8 @@ pub fn look_up(words: &[u32], c: u32) -> Looked
         Checked::FaultAt(pair) => Looked::Refused(Refusal::NotTable, pair),
         Checked::Sound(count) => {
             if unicode::is_scalar(c) {
-                return Looked::Answered(answer_of(words, count, c));
+                let last = last_rules(words, count);
+                return Looked::Answered(answer_of(words, count, c, last));
             }
             Looked::Refused(Refusal::NotScalar, 0)
         }
@@ -184,9 +188,10 @@ fn fill(words: &[u32], count: usize, characters: &[u32], cells: &mut [u8], rules
     ensures cells { λ r. ⌜ now (cells .exit) ≡ over (map (λ c. lookup (tableOf count (now (words .entry))) c .cell) (now (characters .entry))) (now (cells .entry)) ⌝ }
     ensures rules { λ r. ⌜ now (rules .exit) ≡ over (map (λ c. lookup (tableOf count (now (words .entry))) c .rule) (now (characters .entry))) (now (rules .entry)) ⌝ }
 {
+    let last = last_rules(words, count);
     let mut i = 0;
     while i < characters.len() {
-        let a = answer_of(words, count, characters[i]);
+        let a = answer_of(words, count, characters[i], last);
         cells[i] = a.cell;
         rules[i] = a.rule;
         i += 1;

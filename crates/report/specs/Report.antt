@@ -1,7 +1,7 @@
 -- What the program writes: `accepted N`, or `refused N line L`, and one LF after.
-use Prim.Native.Nat.{ℕ, zero, suc, _+_, _/_, _%_}
+use Prim.Native.Nat.{ℕ, zero, suc, _+_, _-_, _/_, _%_}
 use mathlib.Core.List.{List, [], _∷_, _++_}
-use lib.ListN.{take}
+use lib.ListN.{length, replicate}
 use lib.Dec.{ltb}
 use Rattle.basics.specs.Ascii.{ascii}
 use Rattle.basics.specs.Choice.{pick}
@@ -23,6 +23,6 @@ abbrev pub reportOf : Reply ℕ → List ℕ
 reportOf (answered count) = ascii "accepted " ++ (decimal count ++ ascii "\n")
 reportOf (refused number line) = ascii "refused " ++ (decimal number ++ (ascii " line " ++ (decimal line ++ ascii "\n")))
 
--- the bytes of a line so far
-abbrev pub textOf : Line → List ℕ
-textOf l = take (l .length) (l .bytes)
+-- a line of 64 bytes: a text in front, zeros behind it
+abbrev pub lineOf : List ℕ → Line
+lineOf text = record { bytes = text ++ replicate (64 - length text) 0; length = length text }

@@ -1,11 +1,11 @@
 // The line that the program writes for a text table.
 use lines::Compiled;
 ghost use mathlib.Core.Path.{_≡_};
-ghost use mathlib.Core.List.{[], _∷_, _++_};
+ghost use mathlib.Core.List.{[], _∷_};
 ghost use Prim.Native.Nat.{_+_, _≤_, _<_};
 ghost use lib.ListN.{length};
 ghost use Rattle.lines.specs.Texts.{compiledReply};
-ghost use Rattle.report.specs.Report.{decimal, textOf, reportOf};
+ghost use Rattle.report.specs.Report.{decimal, reportOf, lineOf};
 ghost use Rattle.report.specs.Internal.{Grown};
 
 // Bytes of a line so far: the first `length` of them.
@@ -53,9 +53,9 @@ fn with_number(line: Line, n: u64) -> Line
     with_text(line, &digits[..k])
 }
 
-// The line of an answer of the compile call.
+// The line of an answer of the compile call, with zeros behind it.
 pub fn report(answer: Compiled) -> Line
-    ensures { λ r. ⌜ textOf r ≡ reportOf (compiledReply answer) ⌝ }
+    ensures { λ r. ⌜ r ≡ lineOf (reportOf (compiledReply answer)) ⌝ }
     ensures { λ r. ⌜ r .length ≤ 64 ⌝ }
 {
     let empty = Line {

@@ -1,11 +1,16 @@
--- The check of the words as a loop goes it, pair by pair.
+-- The check of the words as a loop goes it, pair by pair, and the bits that words have between them.
 use Prim.Native.Nat.{ℕ, _+_, _*_, _≤_, _<_}
 use mathlib.Core.Path.{_≡_, refl, sym, ap, _∙_}
 use mathlib.Core.Bool.{Bool, true, false, not, _&&_}
 use mathlib.Core.List.{List, [], _∷_, _++_}
 use native.Mathlib.Omega.{arith}
 use lib.ListN.{length, getD, drop, drop-of-length-le}
+use lib.Bits.{bitOr}
+use borrow.Author.Tests.{eq-eqb}
 use Rattle.basics.specs.Choice.{pick}
+use Rattle.basics.proofs.Tests.{told}
+use Rattle.basics.specs.Internal.{bitsWith, bitsOf}
+use Rattle.basics.proofs.Bits.{or-more, bits-more}
 use Rattle.definitions.specs.declared.Meaning.{Meaning}
 use Rattle.definitions.specs.declared.Definition.{Definition}
 use Rattle.definitions.specs.Definitions.{find}
@@ -31,6 +36,22 @@ module _ (ws : List ℕ) (k : ℕ) where
 
   over : length ws ≡ tableWords → definitionLimit ≤ k → drop (2 * k) ws ≡ []
   over len h = drop-of-length-le ws {i = 2 * k} (omega arith)
+
+-- words that have no bit between them are zero pairs
+no-bits-with : (ws : List ℕ) (bits n k : ℕ) → bitsWith ws bits ≡ 0 → Sound n ≡ zeroFrom n k ws
+unfolding bitsWith zeroFrom
+no-bits-with [] bits n k e = refl
+no-bits-with (c ∷ []) bits n k e = refl
+no-bits-with (c ∷ w ∷ ws) bits n k e =
+    let before : ℕ = bitOr bits c in
+    let none : bitOr before w ≡ 0 = omega (arith, bits-more ws (bitOr before w), e) in
+    let first : c ≡ 0 = omega (arith, none, or-more bits c .1, or-more before w .0) in
+    let second : w ≡ 0 = omega (arith, none, or-more before w .1) in
+    rw (eq-eqb c 0 first, eq-eqb w 0 second) (no-bits-with ws (bitOr before w) n (k + 1) e)
+
+-- r is what a call answered of the bits
+pub no-bits : (r n k : ℕ) (ws : List ℕ) → r ≡ bitsOf ws → r ≡ 0 → Sound n ≡ zeroFrom n k ws
+no-bits r n k ws e q = no-bits-with ws 0 n k (told e q)
 
 -- behind a zero pair the check has come from the pair `from` to the pair k
 module _ (n from : ℕ) (ws : List ℕ) (k : ℕ) (inv : zeroFrom n k (drop (2 * k) ws) ≡ zeroFrom n from (drop (2 * from) ws)) (len : length ws ≡ tableWords) where

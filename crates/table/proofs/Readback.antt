@@ -250,15 +250,23 @@ lent ws n long e =
     let size = length-take-le tableWords ws long in
     lent-read ws n size (check-reads [] (take tableWords ws) definitionLimit size (omega arith) e)
 
--- the definitions of a lent table are admitted one after the other
-pub lent-admits : (ws : List ℕ) (ds : List Definition) → lentTable ws ≡ answered ds → Admits [] ds
+-- what holds of the pairs of a slice that passes the check holds of the table that it is
+lent-table : (P : List Definition → Type 0) (ws : List ℕ) (ds : List Definition) → ((n : ℕ) → Lent ws n → P (definitions n ws)) → lentTable ws ≡ answered ds → P ds
 unfolding lentTable
-lent-admits ws ds e =
-    by-test (λ (r : Reply (List Definition)). r ≡ answered ds → Admits [] ds) (ltb (length ws) tableWords)
+lent-table P ws ds holds e =
+    by-test (λ (r : Reply (List Definition)). r ≡ answered ds → P ds) (ltb (length ws) tableWords)
     (λ p g. absurd (let z : _≡_ {A = ℕ} 0 1 = cc in omega arith))
     (λ p g. on-check (checkOf ws) refl (ltb-false (length ws) tableWords p) g)
     e
   where
-    on-check : (checked : Checked) → checkOf ws ≡ checked → tableWords ≤ length ws → checkedTable ws checked ≡ answered ds → Admits [] ds
-    on-check (Sound n) p long e = let same : definitions n ws ≡ ds = cc in rw same at (lent ws n long p .admits)
+    on-check : (checked : Checked) → checkOf ws ≡ checked → tableWords ≤ length ws → checkedTable ws checked ≡ answered ds → P ds
+    on-check (Sound n) p long e = let same : definitions n ws ≡ ds = cc in rw same at (holds n (lent ws n long p))
     on-check (FaultAt pair) p long e = absurd (let z : _≡_ {A = ℕ} 0 1 = cc in omega arith)
+
+-- its definitions are admitted one after the other
+pub lent-admits : (ws : List ℕ) (ds : List Definition) → lentTable ws ≡ answered ds → Admits [] ds
+lent-admits ws ds e = lent-table (λ rs. Admits [] rs) ws ds (λ n l. l .admits) e
+
+-- and in range
+pub lent-in-range : (ws : List ℕ) (ds : List Definition) → lentTable ws ≡ answered ds → AllInRange ds
+lent-in-range ws ds e = lent-table (λ rs. AllInRange rs) ws ds (λ n l. l .in-range) e

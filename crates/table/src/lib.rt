@@ -9,10 +9,10 @@ use definitions::Found;
 use definitions::Meaning;
 use definitions::Verdict;
 ghost use mathlib.Core.Path.{_≡_};
-ghost use mathlib.Core.Bool.{_&&_};
 ghost use mathlib.Core.List.{[], _++_};
 ghost use Prim.Native.Nat.{_+_, _*_, _≤_, _<_};
 ghost use lib.ListN.{length, drop, set, replicate};
+ghost use Rattle.basics.specs.Internal.{bitsOf};
 ghost use Rattle.definitions.specs.Definitions.{find, explicit};
 ghost use Rattle.definitions.specs.Effects.{definitionLimit, closesLoop, verdictOf};
 ghost use Rattle.table.specs.Words.{tableWords, kindUnit, wordOf, meaningOf, isSoundWord, definitions, tableOf};
@@ -211,11 +211,29 @@ fn is_sound_pair(c: u32, w: u32) -> bool
     false
 }
 
-// Behind a zero pair: the pairs from `from` on are zero, or the first that is not is at fault.
+// The bits that the words from `from` on have between them. The loop leaves only at its end, so that it is compiled
+// to take several words at a time.
+fn bits_from(words: &[u32], from: usize) -> u32
+    ensures { λ r. ⌜ r ≡ bitsOf (drop from (now (words .entry))) ⌝ }
+{
+    let mut bits = 0;
+    let mut at = from;
+    while at < words.len() {
+        bits = bits | words[at];
+        at += 1;
+    }
+    bits
+}
+
+// Behind a zero pair: the pairs from `from` on are zero, or the first that is not is at fault. Most often all are
+// zero, and their bits tell it soonest.
 fn zero_from(words: &[u32], count: usize, from: usize) -> Checked
     requires { ⌜ (length (now words) ≡ tableWords) × (from ≤ definitionLimit) ⌝ }
     ensures { λ r. ⌜ r ≡ zeroFrom count from (drop (2 * from) (now (words .entry))) ⌝ }
 {
+    if bits_from(words, 2 * from) == 0 {
+        return Checked::Sound(count);
+    }
     let mut i = from;
     while i < DEFINITION_LIMIT {
         if !is_zero_pair(words[2 * i], words[2 * i + 1]) {

@@ -1,6 +1,6 @@
 -- What a cell types: the entry table by its definitions in order, kept by those that follow, and in plain words.
 use Prim.Native.Nat.{ℕ, _<_}
-use mathlib.Core.Path.{_≡_, refl, sym, ap}
+use mathlib.Core.Path.{_≡_, refl, sym, ap, _∙_}
 use mathlib.Core.List.{List, [], _∷_, _++_}
 use lib.Dec.{eqb}
 use lib.ListN.{length, getD, replicate, length-set, length-replicate, getD-replicate}
@@ -68,6 +68,14 @@ meaning-length : (es : List Entry) (c : ℕ) (m : Meaning) → length (withMeani
 meaning-length es c (Typed dots) = simp length-set
 meaning-length es c (Shown dots) = refl
 meaning-length es c (Alias target) = refl
+
+filled-length : (ds : List Definition) (es : List Entry) → length (filledFrom ds es) ≡ length es
+unfolding filledFrom
+filled-length [] es = refl
+filled-length (d ∷ ds) es = filled-length ds (withMeaning es (d .character) (d .meaning)) ∙ meaning-length es (d .character) (d .meaning)
+
+pub entries-length : (ds : List Definition) → length (entriesOf ds) ≡ 256
+entries-length ds = filled-length ds (replicate 256 nothing) ∙ length-replicate 256 nothing
 
 filled-types : (ds : List Definition) (es : List Entry) (cell : ℕ) → cell < length es → getD es cell nothing .types ≡ Nothing
     → getD (filledFrom ds es) cell nothing .types ≡ typedIn ds cell

@@ -1,9 +1,11 @@
 // Characters: UTF-8, scalar values, base characters, ASCII stand-ins, the local character set.
 use basics::Maybe;
 ghost use mathlib.Core.Path.{_≡_};
+ghost use Prim.Native.Nat.{_≤_};
 ghost use lib.ListN.{length};
+ghost use Rattle.basics.specs.Internal.{bitsOf};
 ghost use Rattle.unicode.specs.Utf8.{afterFirst, afterFurther, afterByte, atEnd, utf8};
-ghost use Rattle.unicode.specs.Internal.{BadWithin};
+ghost use Rattle.unicode.specs.Internal.{BadWithin, Resumed};
 ghost use Rattle.unicode.specs.Characters.{isScalar, isBraille, isPrivate, localCharacter, localOf, standsFor, baseOf, standInOf};
 
 // Where the reading of a line as UTF-8 stands: between two characters; in a character that still wants `left` bytes,
@@ -118,16 +120,65 @@ fn at_end(p: Utf8State) -> Validity
     }
 }
 
+// Where the run of ASCII bytes from `from` on ends: at the first other byte, or at the line's end.
+fn after_ascii(line: &[u8], from: usize) -> usize
+    requires { ⌜ from ≤ length (now line) ⌝ }
+    ensures { λ r. ⌜ Resumed (now (line .entry)) from Utf8State.Between r ⌝ }
+{
+    let mut i = from;
+    while i < line.len() {
+        if 0x80 <= line[i] {
+            return i;
+        }
+        i += 1;
+    }
+    i
+}
+
+// Where the reading goes on that stands at `at`: between two characters, behind the ASCII bytes, which need no state.
+fn resume(line: &[u8], at: usize, p: Utf8State) -> usize
+    requires { ⌜ at ≤ length (now line) ⌝ }
+    ensures { λ r. ⌜ Resumed (now (line .entry)) at p r ⌝ }
+{
+    match p {
+        Utf8State::Between => after_ascii(line, at),
+        Utf8State::Inside {
+            left: _,
+            low: _,
+            high: _,
+            start: _,
+        } => at,
+        Utf8State::Broken(_) => at,
+    }
+}
+
+// The bits that the bytes of a line have between them, below 0x80 if all are ASCII. The loop leaves only at its end, so
+// that it is compiled to take several bytes at a time.
+fn bits_of(line: &[u8]) -> u8
+    ensures { λ r. ⌜ r ≡ bitsOf (now (line .entry)) ⌝ }
+{
+    let mut bits = 0;
+    let mut i = 0;
+    while i < line.len() {
+        bits = bits | line[i];
+        i += 1;
+    }
+    bits
+}
+
 // Whether all of `line` is UTF-8; if not, where the first bad sequence begins.
 pub fn check_utf8(line: &[u8]) -> Validity
     ensures { λ r. ⌜ r ≡ utf8 (now (line .entry)) ⌝ }
     ensures { λ r. ⌜ BadWithin r (length (now (line .entry))) ⌝ }
 {
+    if bits_of(line) < 0x80 {
+        return Validity::Good;
+    }
     let mut p = Utf8State::Between;
-    let mut i = 0;
+    let mut i = after_ascii(line, 0);
     while i < line.len() {
         p = after_byte(p, line[i], i);
-        i += 1;
+        i = resume(line, i + 1, p);
     }
     at_end(p)
 }

@@ -2,11 +2,30 @@
 
 use harness::generate::backward_chain_text;
 use harness::random::Random;
-use harness::reference::{self, LINE_BYTES, PAIRS, TEXT_BYTES, WORDS};
-use harness::side::{Side, HASHED, LIBRARY, REFERENCE};
+use harness::reference::{self, Refusal, CELLS, LINE_BYTES, PAIRS, TEXT_BYTES, WORDS};
+use harness::side::{Side, SIDES};
+use std::ffi::OsString;
 use std::hint::black_box;
 use std::process::{Command, Stdio};
 use std::time::Duration;
+
+/// Bytes before all other code, a multiple of 16. Where a loop lies in the processor's lines of code can double its time,
+/// so harness/run builds a program with each of several paddings.
+const PADDING: usize = match option_env!("HEATHDAPPLE_PADDING") {
+    None => 0,
+    Some(padding) => match usize::from_str_radix(padding, 10) {
+        Ok(padding) => padding,
+        Err(_) => panic!("HEATHDAPPLE_PADDING is a number"),
+    },
+};
+
+std::arch::global_asm!(
+    ".pushsection .text.padding, \"axR\", @progbits",
+    ".p2align 4",
+    ".skip {padding}, 0xCC",
+    ".popsection",
+    padding = const PADDING,
+);
 
 /// Processor time of this thread, which other load on the machine disturbs less than time on the wall.
 fn now() -> Duration {
@@ -25,10 +44,9 @@ fn now() -> Duration {
     Duration::new(time.seconds as u64, time.nanoseconds as u32)
 }
 
-const SIDES: [Side; 3] = [LIBRARY, REFERENCE, HASHED];
 const SAMPLE: Duration = Duration::from_millis(4);
 const ROUNDS: usize = 5;
-const PROCESSES: usize = 7;
+const PROCESSES: usize = 5;
 
 fn median(times: &[f64]) -> f64 {
     let mut sorted = times.to_vec();
@@ -40,8 +58,22 @@ fn heading(title: &str) {
     println!("heading\t{title}");
 }
 
+/// One row: the sides' answers and buffers are compared, then the call is timed.
+fn row<B: Clone + PartialEq, A: PartialEq>(name: &str, buffers: B, call: impl Fn(&Side, &mut B) -> Result<A, Refusal>) {
+    let mut kept = buffers.clone();
+    let [library, reference, hashed] = SIDES.map(|side| {
+        let mut buffers = buffers.clone();
+        (call(&side, &mut buffers), buffers)
+    });
+    assert!(library.0.is_ok() && library == reference && reference == hashed, "{name}: the sides agree");
+    time(name, &mut |side| {
+        let answer = call(side, &mut kept);
+        let _ = black_box((answer, &mut kept));
+    });
+}
+
 /// Times one call on each side, the sides taking turns, and prints the medians.
-fn row(name: &str, call: &mut dyn FnMut(&Side)) {
+fn time(name: &str, call: &mut dyn FnMut(&Side)) {
     let mut repeats = [1u32; 3];
     let mut slowest = Duration::ZERO;
     let mut times = [const { Vec::new() }; 3];
@@ -98,17 +130,23 @@ fn ratios_shown(library: &[f64], other: &[f64]) -> [String; 2] {
     [ratio_shown(median(&ratios)), format!("({} to {})", ratio_shown(low), ratio_shown(high))]
 }
 
+/// A row of a table in Markdown, the columns in line.
+fn print_row([name, fields @ ..]: [&str; 8]) {
+    print!("| {name:<56} |");
+    for (field, width) in fields.iter().zip([9, 9, 9, 7, 14, 8, 14]) {
+        print!(" {field:>width$} |");
+    }
+    println!();
+}
+
 fn print_table(runs: &[String]) {
     let runs: Vec<Vec<&str>> = runs.iter().map(|run| run.lines().collect()).collect();
     for (place, line) in runs[0].iter().enumerate() {
         let fields: Vec<&str> = line.split('\t').collect();
         if fields[0] == "heading" {
-            let [title, library, reference, hashed] = [fields[1], "library", "reference", "hashed"];
             println!();
-            println!(
-                "{title:<56}{library:>11}{reference:>11}{hashed:>11}{:>9}{:>16}{:>9}{:>16}",
-                "lib/ref", "(runs)", "lib/hash", "(runs)"
-            );
+            print_row([fields[1], "library", "reference", "hashed", "lib/ref", "(runs)", "lib/hash", "(runs)"]);
+            print_row(["---", "--:", "--:", "--:", "--:", "--:", "--:", "--:"]);
             continue;
         }
         let times = [2, 3, 4].map(|field| -> Vec<f64> {
@@ -118,29 +156,32 @@ fn print_table(runs: &[String]) {
         let [library, reference, hashed] = [0, 1, 2].map(|which| time_shown(median(&times[which])));
         let [by_reference, by_reference_runs] = ratios_shown(&times[0], &times[1]);
         let [by_hashed, by_hashed_runs] = ratios_shown(&times[0], &times[2]);
-        println!(
-            "{:<56}{library:>11}{reference:>11}{hashed:>11}{by_reference:>9}{by_reference_runs:>16}{by_hashed:>9}{by_hashed_runs:>16}",
-            fields[1]
-        );
+        let ratios = [&by_reference, &by_reference_runs, &by_hashed, &by_hashed_runs];
+        let [a, b, c, d] = ratios.map(String::as_str);
+        print_row([fields[1], &library, &reference, &hashed, a, b, c, d]);
     }
 }
 
 fn main() {
-    if std::env::args().nth(1).as_deref() == Some("once") {
+    let mut programs: Vec<OsString> = std::env::args_os().skip(1).collect();
+    if programs == ["once"] {
         return measure();
     }
-    println!("library: libheathdapple.a by its C interface. reference: the same algorithm in plain Rust (linear scans, walks");
-    println!("by scanning). hashed: a HashMap from character to meaning, built anew by each call. Release build.");
-    println!("Buffers (words, cells, rules) are filled once before the first call and not cleared between calls, on every side.");
-    println!("Processor time of a call. {PROCESSES} processes one after the other; in each the sides take turns, {ROUNDS} rounds and their median.");
-    println!(
-        "Shown: the median of the processes, of times and of ratios, and the lowest and highest ratio of a process."
-    );
-    println!("Before timing, the three sides' answers and buffers were compared.");
-    let own = std::env::current_exe().expect("the path of this program");
+    if programs.is_empty() {
+        let own = std::env::current_exe().expect("the path of this program");
+        programs = vec![own.into(); PROCESSES];
+    }
+    println!("library: libheathdapple.a by the Rust package. reference: the same algorithm in plain Rust (linear scans, walks");
+    println!("by scanning), but for UTF-8, which is the standard library's. hashed: a HashMap from character to meaning, built");
+    println!("anew by each call; it has no attributes table of its own, there the column is the reference again. Release build.");
+    println!("Buffers (words, cells, rules, entries) are filled once before the first call and not cleared between calls, on every");
+    println!("side. Processor time of a call. One process for each program that is named (harness/run names {PROCESSES}, each with its code");
+    println!("at another place); in each the sides take turns, {ROUNDS} rounds and their median. Shown: the median of the processes, of");
+    println!("times and of ratios, and the lowest and highest ratio of a process. Before timing, the three sides' answers and");
+    println!("buffers were compared.");
     let mut runs = Vec::new();
-    for _ in 0..PROCESSES {
-        let output = Command::new(&own).arg("once").stderr(Stdio::inherit()).output().expect("a process");
+    for program in programs {
+        let output = Command::new(&program).arg("once").stderr(Stdio::inherit()).output().expect("a process");
         assert!(output.status.success(), "a process failed");
         runs.push(String::from_utf8(output.stdout).expect("rows"));
     }
@@ -157,6 +198,11 @@ fn definition_character(k: usize) -> u32 {
 fn definitions(count: usize) -> String {
     let word = |k: usize| if k.is_multiple_of(2) { "char" } else { "glyph" };
     (0..count).map(|k| format!("{} \\u{:04X} {}\n", word(k), definition_character(k), 1 + k % 8)).collect()
+}
+
+/// Definitions of which the last three are a base character, a stand-in and `?`.
+fn definitions_to_fall_to(count: usize) -> String {
+    definitions(count - 3) + "char e 15\nchar - 36\nchar ? 1456\n"
 }
 
 /// 1,024 `char` lines of 64 bytes each.
@@ -208,47 +254,41 @@ fn mixed_page(length: usize, count: usize) -> Vec<u32> {
         .collect()
 }
 
+/// A page of characters that are not defined: by turns of a base, of a stand-in, and of neither.
+fn falling_page(length: usize) -> Vec<u32> {
+    [0xE9, 0x2013, 0x3FFF].into_iter().cycle().take(length).collect()
+}
+
 // Rows.
+
+/// A table and its count of definitions, also as it is shown.
+type Size<'a> = (&'a str, &'a [u32], usize);
 
 fn compile_row(name: &str, text: &str) {
     assert!(text.len() <= TEXT_BYTES);
-    let mut words = vec![0xA5A5_A5A5; WORDS];
-    let answers = SIDES.map(|side| ((side.compile)(text.as_bytes(), &mut words), words.clone()));
-    assert!(answers[0].0.is_ok() && answers[0] == answers[1] && answers[1] == answers[2], "the sides agree");
-    row(name, &mut |side| {
-        let answer = (side.compile)(black_box(text.as_bytes()), &mut words);
-        let _ = black_box((answer, &mut words));
-    });
+    row(name, vec![0xA5A5_A5A5; WORDS], |side, words| (side.compile)(black_box(text.as_bytes()), words));
 }
 
 fn page_row(name: &str, words: &[u32], characters: &[u32]) {
-    let mut cells = vec![0xA5; characters.len()];
-    let mut rules = vec![0xA5; characters.len()];
-    let answers =
-        SIDES.map(|side| ((side.page)(words, characters, &mut cells, &mut rules), cells.clone(), rules.clone()));
-    assert!(answers[0].0.is_ok() && answers[0] == answers[1] && answers[1] == answers[2], "the sides agree");
-    row(name, &mut |side| {
-        let answer = (side.page)(black_box(words), black_box(characters), &mut cells, &mut rules);
-        let _ = black_box((answer, &mut cells, &mut rules));
+    let buffer = vec![0xA5; characters.len()];
+    row(name, [buffer.clone(), buffer], |side, [cells, rules]| {
+        (side.page)(black_box(words), black_box(characters), cells, rules)
     });
 }
 
 fn look_up_row(name: &str, words: &[u32], character: u32) {
-    let answers = SIDES.map(|side| (side.look_up)(words, character));
-    assert!(answers[0].is_ok() && answers[0] == answers[1] && answers[1] == answers[2], "the sides agree");
-    row(name, &mut |side| {
-        let _ = black_box((side.look_up)(black_box(words), black_box(character)));
-    });
+    row(name, (), |side, ()| (side.look_up)(black_box(words), black_box(character)));
 }
 
-fn measure() {
-    let chain_text = backward_chain_text(1000);
-    let forward_chain_text: String = {
-        let mut lines: Vec<&str> = chain_text.lines().collect();
-        lines.reverse();
-        lines.iter().map(|line| format!("{line}\n")).collect()
-    };
+/// Fills a buffer by 256 single calls.
+fn one_by_one<T>(buffer: &mut [T; CELLS], call: impl Fn(u8) -> Result<T, Refusal>) -> Result<(), Refusal> {
+    for (place, byte) in buffer.iter_mut().zip(0..=255) {
+        *place = call(byte)?;
+    }
+    Ok(())
+}
 
+fn compile_rows(chain_text: &str, forward_chain_text: &str) {
     heading("compile");
     compile_row("1 definition", &definitions(1));
     compile_row("32 definitions", &definitions(32));
@@ -256,46 +296,84 @@ fn measure() {
     compile_row("1,024 char lines padded to 65,536 bytes", &padded());
     compile_row("65,536 empty lines", &"\n".repeat(TEXT_BYTES));
     compile_row("64 full lines of 8 conditions, empty table", &failing_conditions());
-    compile_row("chain of 1,000 aliases, targets said later", &forward_chain_text);
-    compile_row("chain of 1,000 aliases, targets said earlier", &chain_text);
+    compile_row("chain of 1,000 aliases, targets said later", forward_chain_text);
+    compile_row("chain of 1,000 aliases, targets said earlier", chain_text);
     compile_row("worst: chain of 1,023 aliases, then 8 conditions a line", &worst());
+}
 
-    let small = table(&definitions(32));
-    let large = table(&definitions(PAIRS));
-    let chain = table(&chain_text);
-    let forward_chain = table(&forward_chain_text);
+fn typed_rows(sizes: [Size; 2]) {
+    heading("typed and entries (with their check)");
+    for (name, words, _) in sizes {
+        row(&format!("typed, one call, {name} definitions"), (), |side, ()| (side.typed)(black_box(words), 1));
+        row(&format!("typed, 256 single calls, {name} definitions"), [0; CELLS], |side, entries| {
+            one_by_one(entries, |cell| side.entry(black_box(words), cell))
+        });
+        row(&format!("entries, {name} definitions"), [0; CELLS], |side, entries| {
+            (side.entries)(black_box(words), entries)
+        });
+    }
+}
+
+fn attribute_rows() {
+    let text: String =
+        reference::NAMES.iter().enumerate().map(|(dot, (name, _))| format!("dot {} ={name}\n", dot + 1)).collect();
+    let text = text.as_bytes();
+    heading("attribute_cell and attribute_cells, 8 lines");
+    row("attribute_cell, one call", (), |side, ()| (side.attribute_cell)(black_box(text), 0x5A));
+    row("attribute_cell, 256 single calls", [0; CELLS], |side, cells| {
+        one_by_one(cells, |byte| (side.attribute_cell)(black_box(text), byte))
+    });
+    row("attribute_cells", [0; CELLS], |side, cells| (side.attribute_cells)(black_box(text), cells));
+}
+
+fn check_rows(small: &[u32], large: &[u32], chain: &[u32], forward_chain: &[u32]) {
     heading("check alone (an empty page)");
     page_row("1 definition", &table(&definitions(1)), &[]);
-    page_row("32 definitions", &small, &[]);
-    page_row("1,024 definitions", &large, &[]);
-    page_row("chain of 1,000 aliases, targets said later", &forward_chain, &[]);
-    page_row("chain of 1,000 aliases, targets said earlier", &chain, &[]);
+    page_row("32 definitions", small, &[]);
+    page_row("1,024 definitions", large, &[]);
+    page_row("chain of 1,000 aliases, targets said later", forward_chain, &[]);
+    page_row("chain of 1,000 aliases, targets said earlier", chain, &[]);
+}
 
+fn look_up_rows(sizes: [Size; 2], forward_chain: &[u32]) {
     heading("look_up (with its check)");
-    for (name, words, count) in [("32", &small, 32), ("1,024", &large, PAIRS)] {
+    for (name, words, count) in sizes {
         look_up_row(&format!("{name} definitions, hit at the first"), words, definition_character(0));
         look_up_row(&format!("{name} definitions, hit at the last"), words, definition_character(count - 1));
         look_up_row(&format!("{name} definitions, miss"), words, 0x3FFF);
     }
-    look_up_row("chain of 1,000 aliases, from its head", &forward_chain, 0x400);
+    look_up_row("chain of 1,000 aliases, from its head", forward_chain, 0x400);
+}
 
+fn page_rows(sizes: [Size; 2], forward_chain: &[u32]) {
     heading("page (with its check)");
-    for (name, words, count) in [("32", &small, 32), ("1,024", &large, PAIRS)] {
+    for (name, words, count) in sizes {
         page_row(&format!("100 characters, {name} definitions"), words, &mixed_page(100, count));
         page_row(&format!("100,000 characters, {name} definitions"), words, &mixed_page(100_000, count));
     }
-    page_row("100 characters, each the head of a chain of 1,000", &forward_chain, &[0x400; 100]);
+    page_row("100 characters, each the head of a chain of 1,000", forward_chain, &[0x400; 100]);
+}
 
-    heading("typed and attribute_cell");
-    row("typed, 32 definitions", &mut |side| {
-        let _ = black_box((side.typed)(black_box(&small), 1));
-    });
-    row("typed, 1,024 definitions", &mut |side| {
-        let _ = black_box((side.typed)(black_box(&large), 1));
-    });
-    let attributes: String =
-        reference::NAMES.iter().enumerate().map(|(dot, (name, _))| format!("dot {} ={name}\n", dot + 1)).collect();
-    row("attribute_cell, 8 lines (no hashed side: the reference)", &mut |side| {
-        let _ = black_box((side.attribute_cell)(black_box(attributes.as_bytes()), 0x5A));
-    });
+fn falling_rows(sizes: [Size; 2]) {
+    heading("page of characters that fall to rule 5 and below");
+    for (name, _, count) in sizes {
+        let words = table(&definitions_to_fall_to(count));
+        page_row(&format!("100 characters, {name} definitions"), &words, &falling_page(100));
+        page_row(&format!("100,000 characters, {name} definitions"), &words, &falling_page(100_000));
+    }
+}
+
+fn measure() {
+    let chain_text = backward_chain_text(1000);
+    let forward_chain_text: String = chain_text.lines().rev().map(|line| format!("{line}\n")).collect();
+    let [small, large] = [32, PAIRS].map(|count| table(&definitions(count)));
+    let [chain, forward_chain] = [&chain_text, &forward_chain_text].map(|text| table(text));
+    let sizes: [Size; 2] = [("32", &small, 32), ("1,024", &large, PAIRS)];
+    compile_rows(&chain_text, &forward_chain_text);
+    check_rows(&small, &large, &chain, &forward_chain);
+    look_up_rows(sizes, &forward_chain);
+    page_rows(sizes, &forward_chain);
+    falling_rows(sizes);
+    typed_rows(sizes);
+    attribute_rows();
 }

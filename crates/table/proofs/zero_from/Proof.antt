@@ -7,7 +7,7 @@ use Prim.Native.Nat.{_*_, _≤_, _-_}
 use mathlib.Core.Path.{_≡_, refl}
 use lib.ListN.{length, drop}
 use Rattle.table.specs.Check.{zeroFrom}
-use Rattle.table.proofs.Check.{zero-next, zero-over}
+use Rattle.table.proofs.Check.{no-bits, zero-next, zero-over}
 use Rattle.table.proofs.zero_from.Statement.{statement}
 use Rattle.table.proofs.zero_from.Tie as tie
 
@@ -24,6 +24,9 @@ zero-from-spec =
     (tie.spec
     Inv-loop
     μ-loop
+    (λ c. search needs)
+    (λ c κs. search needs)
+    (λ c. search no-bits)
     (λ c. (search needs, search needs, refl))
     (λ c. search needs)
     (λ c. search needs)

@@ -4,7 +4,7 @@ use lib.ListN.{length, drop}
 use borrow.Author.Needs.{needs}
 use Rattle.basics.proofs.Loops.{no-element}
 use Rattle.unicode.specs.Utf8.{utf8, utf8From}
-use Rattle.unicode.proofs.Utf8.{StartWithin, byte-on, start-on, start-end}
+use Rattle.unicode.proofs.Utf8.{StartWithin, byte-on, ascii-good, resumed, start-on, start-end}
 use Rattle.unicode.proofs.check_utf8.Statement.{statement}
 use Rattle.unicode.proofs.check_utf8.Tie as tie
 
@@ -22,11 +22,15 @@ check-utf8-spec =
     (tie.spec
     Inv-loop
     μ-loop
-    (λ c. (search needs, refl, tt))
+    (λ c κs. search needs)
+    (λ c. (search ascii-good, tt))
+    (λ c κs. search needs)
+    (λ c. (search needs, resumed _ _ _ _ (c .after-ascii .ensures) refl, tt))
     (λ c. search needs)
     (λ c κs. search needs)
     (λ c. search needs)
+    (λ c κs. search needs)
     (λ c. search needs)
-    (λ c. (search needs, search byte-on, search start-on))
+    (λ c. (search needs, search (resumed, byte-on), search (start-on, needs)))
     (λ c κs. search needs)
     (λ c. (search (no-element utf8From), search start-end)))

@@ -1,4 +1,4 @@
-//! Links libheathdapple.a from ../target/staticlib, or from the folder that HEATHDAPPLE_LIB_DIR names.
+//! Links libheathdapple.a from ../../target/staticlib, or from the folder that HEATHDAPPLE_LIB_DIR names.
 
 use std::env;
 use std::path::PathBuf;
@@ -7,13 +7,10 @@ use std::process::exit;
 fn main() {
     println!("cargo:rerun-if-changed=build.rs");
     println!("cargo:rerun-if-env-changed=HEATHDAPPLE_LIB_DIR");
-    if env::var_os("CARGO_FEATURE_LIBRARY").is_none() {
-        return;
-    }
     let here = PathBuf::from(env::var_os("CARGO_MANIFEST_DIR").expect("cargo names the manifest's folder"));
     let folder = match env::var_os("HEATHDAPPLE_LIB_DIR") {
         Some(folder) if !folder.is_empty() => here.join(folder),
-        _ => here.join("../target/staticlib"),
+        _ => here.join("../../target/staticlib"),
     };
     let archive = folder.join("libheathdapple.a");
     if !archive.is_file() {

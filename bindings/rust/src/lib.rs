@@ -1,0 +1,157 @@
+//! Safe calls over Heathdapple, a proved reference for braille terminals: text and attributes tables, the cell that a
+//! character shows, the character that a cell types.
+//!
+//! [`Table`] owns a compiled table:
+//!
+//! ```
+//! let table = heathdapple::Table::compile(b"char a 1\nalias \\u00E4 a\n")?;
+//! let shown = table.look_up('ä')?;
+//! assert_eq!((shown.cell, shown.rule, shown.links), (0x01, 4, 1));
+//! assert_eq!(table.typed(0x01)?, Some('a'));
+//! # Ok::<(), heathdapple::Refusal>(())
+//! ```
+//!
+//! The functions are the library's calls over lent memory. They take any slices and any numbers, and refuse what they
+//! cannot use:
+//!
+//! ```
+//! let mut words = [0; heathdapple::TABLE_WORDS];
+//! let refusal = heathdapple::compile(b"char a 1\n\nglyph a 2\n", &mut words).unwrap_err();
+//! assert_eq!((refusal.number, refusal.place), (11, 3));
+//! assert_eq!(refusal.to_string(), "line 3: character or dot already defined (refusal 11)");
+//! ```
+//!
+//! Linking needs `libheathdapple.a`: `rt staticlib heathdapple` in the repository's root builds it, and
+//! `HEATHDAPPLE_LIB_DIR` names another folder that holds it.
+
+#![deny(missing_docs)]
+#![deny(unsafe_code)]
+
+#[cfg(not(all(target_arch = "x86_64", target_os = "linux")))]
+compile_error!("libheathdapple.a is for x86-64 Linux");
+
+mod library;
+mod refusal;
+mod table;
+
+pub use refusal::Refusal;
+pub use table::Table;
+
+/// The words of a compiled table: two for each of 1,024 definitions.
+pub const TABLE_WORDS: usize = 2048;
+
+/// The cells of eight dots, and the VGA attribute bytes: the least length for [`entries`] and [`attribute_cells`].
+pub const CELLS: usize = 256;
+
+/// What a lookup shows.
+#[derive(Clone, Copy, Debug, PartialEq, Eq)]
+pub struct Shown {
+    /// The dots: dot d adds 2^(d-1).
+    pub cell: u8,
+    /// The rule that gave the cell: 1 or 3 to 9, plus 16 if rule 2 was passed.
+    pub rule: u8,
+    /// The length of the character's alias walk.
+    pub links: u32,
+}
+
+/// The value of a code, which is at most `most`, or its refusal. A greater value, which no call gives, is number 0.
+fn value(code: u64, most: u32) -> Result<u32, Refusal> {
+    let (number, low) = ((code >> 32) as u32, code as u32);
+    if number == 0 && low <= most {
+        Ok(low)
+    } else {
+        Err(Refusal { number, place: low })
+    }
+}
+
+/// Compiles a text table into the first 2,048 words; answers the count of definitions.
+///
+/// A refusal zeroes the 2,048 words, but for 1 and 2, which touch nothing. Words beyond are never touched.
+pub fn compile(text: &[u8], words: &mut [u32]) -> Result<u32, Refusal> {
+    value(library::compile(text, words), TABLE_WORDS as u32 / 2)
+}
+
+/// Looks a character up on a compiled table.
+pub fn look_up(words: &[u32], character: u32) -> Result<Shown, Refusal> {
+    let answer = value(library::look_up(words, character), u32::MAX)?;
+    let [cell, rule, ..] = answer.to_le_bytes();
+    Ok(Shown { cell, rule, links: answer >> 16 })
+}
+
+/// Fills a cell and a rule for each character of a page; bytes past the page's length stay. A refusal writes nothing.
+pub fn page(words: &[u32], characters: &[u32], cells: &mut [u8], rules: &mut [u8]) -> Result<(), Refusal> {
+    value(library::page(words, characters, cells, rules), 0).map(drop)
+}
+
+/// The character that a cell types on a compiled table, if any.
+pub fn typed(words: &[u32], cell: u8) -> Result<Option<u32>, Refusal> {
+    Ok(value(library::typed(words, cell), char::MAX as u32 + 1)?.checked_sub(1))
+}
+
+/// What each of the 256 cells types, in the first 256 elements: 0 for nothing, else the character + 1.
+///
+/// Elements past them stay. A refusal writes nothing.
+pub fn entries(words: &[u32], entries: &mut [u32]) -> Result<(), Refusal> {
+    value(library::entries(words, entries), 0).map(drop)
+}
+
+/// The cell of a VGA attribute byte by an attributes table's text.
+pub fn attribute_cell(text: &[u8], byte: u8) -> Result<u8, Refusal> {
+    Ok(value(library::attribute_cell(text, byte), 255)? as u8)
+}
+
+/// The cells of all 256 VGA attribute bytes, in the first 256 bytes; answers the count of `dot` lines.
+///
+/// Bytes past them stay. A refusal writes nothing.
+///
+/// ```
+/// let mut cells = [0; heathdapple::CELLS];
+/// assert_eq!(heathdapple::attribute_cells(b"dot 1 =fg-red\ndot 4 ~bg-blue\n", &mut cells), Ok(2));
+/// assert_eq!((cells[0x04], cells[0x10]), (0x09, 0x00));
+/// ```
+pub fn attribute_cells(text: &[u8], cells: &mut [u8]) -> Result<u32, Refusal> {
+    value(library::attribute_cells(text, cells), 8)
+}
+
+#[cfg(test)]
+mod tests {
+    use super::*;
+
+    #[test]
+    fn codes() {
+        assert_eq!(value(0, 0), Ok(0));
+        assert_eq!(value(u64::from(u32::MAX), u32::MAX), Ok(u32::MAX));
+        assert_eq!(value(11 << 32 | 3, 1024), Err(Refusal { number: 11, place: 3 }));
+        assert_eq!(value(14 << 32 | 0xFFFF_FFFF, 0), Err(Refusal { number: 14, place: u32::MAX }));
+        assert_eq!(value(256, 255), Err(Refusal { number: 0, place: 256 }));
+        assert_eq!(value(u64::MAX, u32::MAX), Err(Refusal { number: u32::MAX, place: u32::MAX }));
+    }
+
+    #[test]
+    fn calls_over_lent_memory() {
+        let mut words = [7; TABLE_WORDS + 1];
+        assert_eq!(compile(b"char a 1\nglyph A 17\n", &mut words), Ok(2));
+        assert_eq!(words[..5], [0x61, 0x0100_0001, 0x41, 0x0200_0041, 0]);
+        assert_eq!(words[TABLE_WORDS], 7);
+        assert_eq!(look_up(&words, 0xF0C5), Ok(Shown { cell: 0x41, rule: 21, links: 0 }));
+        assert_eq!(look_up(&words, 0xD800), Err(Refusal { number: 14, place: 0 }));
+        let (mut cells, mut rules) = ([9; 3], [9; 2]);
+        assert_eq!(page(&words, &[0x61, 0x2809], &mut cells, &mut rules), Ok(()));
+        assert_eq!((cells, rules), ([1, 9, 9], [3, 1]));
+        assert_eq!(page(&words, &[0x61; 3], &mut cells, &mut rules), Err(Refusal { number: 2, place: 0 }));
+        assert_eq!((typed(&words, 0x01), typed(&words, 0x41)), (Ok(Some(0x61)), Ok(None)));
+        let mut all = [9; CELLS];
+        assert_eq!(entries(&words, &mut all), Ok(()));
+        assert_eq!(all[..3], [0, 0x62, 0]);
+        words[3] = 5;
+        assert_eq!(entries(&words, &mut all), Err(Refusal { number: 15, place: 1 }));
+        assert_eq!(typed(&[], 0), Err(Refusal { number: 2, place: 0 }));
+    }
+
+    #[test]
+    fn attributes() {
+        assert_eq!(attribute_cell(b"dot 8 =blink\n", 0x80), Ok(0x80));
+        assert_eq!(attribute_cell(b"dot 8 on\n", 0), Err(Refusal { number: 16, place: 1 }));
+        assert_eq!(attribute_cells(b"", &mut [0; 255]), Err(Refusal { number: 2, place: 0 }));
+    }
+}

@@ -1,0 +1,81 @@
+use std::error::Error;
+use std::fmt;
+
+/// A refusal by its number and place, and as an error with a message.
+///
+/// ```
+/// let refusal = heathdapple::Refusal { number: 15, place: 2 };
+/// assert_eq!(refusal.to_string(), "pair 2: not a compiled table (refusal 15)");
+/// ```
+#[derive(Clone, Copy, Debug, PartialEq, Eq)]
+pub struct Refusal {
+    /// 1 to 16; 0 for an answer that the call never gives.
+    pub number: u32,
+    /// A line from 1, or a pair of words or a character's index from 0; 2^32 - 1 also for a greater one.
+    pub place: u32,
+}
+
+impl Refusal {
+    /// What the number says, without the place.
+    pub fn reason(self) -> &'static str {
+        match self.number {
+            0 => "not an answer of this call",
+            1 => "text over 65,536 bytes",
+            2 => "table under 2,048 words, or a buffer that is too short",
+            3 => "line over 1,024 bytes",
+            4 => "line not UTF-8",
+            5 => "unknown directive word",
+            6 => "operand or further directive missing",
+            7 => "bad character or byte operand",
+            8 => "bad dots, cell or dot number",
+            9 => "text after the last operand",
+            10 => "ninth condition on a line",
+            11 => "character or dot already defined",
+            12 => "alias loop",
+            13 => "a definition beyond 1,024",
+            14 => "character to look up is no scalar",
+            15 => "not a compiled table",
+            16 => "bad attribute state",
+            _ => "refused for a reason unknown here",
+        }
+    }
+}
+
+impl fmt::Display for Refusal {
+    fn fmt(&self, f: &mut fmt::Formatter<'_>) -> fmt::Result {
+        let place = match self.number {
+            0 => "answer",
+            1 | 2 => "",
+            3..=13 | 16 => "line",
+            14 => "character",
+            15 => "pair",
+            _ => "place",
+        };
+        if !place.is_empty() {
+            write!(f, "{place} {}: ", self.place)?;
+        }
+        write!(f, "{} (refusal {})", self.reason(), self.number)
+    }
+}
+
+impl Error for Refusal {}
+
+#[cfg(test)]
+mod tests {
+    use super::Refusal;
+
+    #[test]
+    fn messages() {
+        for (number, place, message) in [
+            (0, 9, "answer 9: not an answer of this call (refusal 0)"),
+            (1, 0, "text over 65,536 bytes (refusal 1)"),
+            (12, 3, "line 3: alias loop (refusal 12)"),
+            (14, 7, "character 7: character to look up is no scalar (refusal 14)"),
+            (16, 1, "line 1: bad attribute state (refusal 16)"),
+            (17, 4, "place 4: refused for a reason unknown here (refusal 17)"),
+            (u32::MAX, 0, "place 0: refused for a reason unknown here (refusal 4294967295)"),
+        ] {
+            assert_eq!(Refusal { number, place }.to_string(), message);
+        }
+    }
+}

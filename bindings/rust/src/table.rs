@@ -1,0 +1,76 @@
+use crate::{Refusal, Shown, CELLS, TABLE_WORDS};
+
+/// A compiled text table that owns its words.
+///
+/// The words are a table since compiling accepted them and nothing writes them after; the calls still hand on what the
+/// library answers.
+#[derive(Clone, Debug, PartialEq, Eq)]
+pub struct Table {
+    words: Box<[u32]>,
+    definitions: u32,
+}
+
+impl Table {
+    /// Compiles a text, or answers its refusal with the line.
+    pub fn compile(text: &[u8]) -> Result<Table, Refusal> {
+        let mut words = vec![0; TABLE_WORDS].into_boxed_slice();
+        let definitions = crate::compile(text, &mut words)?;
+        Ok(Table { words, definitions })
+    }
+
+    /// The 2,048 words, as the calls over lent words take them.
+    pub fn words(&self) -> &[u32] {
+        &self.words
+    }
+
+    /// The count of definitions.
+    pub fn definitions(&self) -> u32 {
+        self.definitions
+    }
+
+    /// Looks a character up.
+    pub fn look_up(&self, character: char) -> Result<Shown, Refusal> {
+        crate::look_up(&self.words, character.into())
+    }
+
+    /// Fills a cell and a rule for each character; see [`crate::page`].
+    pub fn page(&self, characters: &[u32], cells: &mut [u8], rules: &mut [u8]) -> Result<(), Refusal> {
+        crate::page(&self.words, characters, cells, rules)
+    }
+
+    /// The character that a cell types, if any.
+    pub fn typed(&self, cell: u8) -> Result<Option<char>, Refusal> {
+        Ok(crate::typed(&self.words, cell)?.and_then(char::from_u32))
+    }
+
+    /// What each of the 256 cells types.
+    pub fn entries(&self) -> Result<[Option<char>; CELLS], Refusal> {
+        let mut entries = [0; CELLS];
+        crate::entries(&self.words, &mut entries)?;
+        Ok(entries.map(|entry: u32| entry.checked_sub(1).and_then(char::from_u32)))
+    }
+}
+
+#[cfg(test)]
+mod tests {
+    use super::Table;
+    use crate::{Refusal, Shown};
+
+    #[test]
+    fn owned() {
+        let table = Table::compile(b"char a 1\nchar b 1\nalias \\u03B1 a\n").expect("an accepted text");
+        assert_eq!((table.definitions(), table.words().len()), (3, 2048));
+        assert_eq!(table.look_up('α'), Ok(Shown { cell: 1, rule: 4, links: 1 }));
+        assert_eq!((table.typed(1), table.typed(2)), (Ok(Some('a')), Ok(None)));
+        let entries = table.entries().expect("a compiled table");
+        assert_eq!(entries[..3], [None, Some('a'), None]);
+        let (mut cells, mut rules) = ([0; 2], [0; 2]);
+        assert_eq!(table.page(&[0x61, 0x62], &mut cells, &mut rules), Ok(()));
+        assert_eq!((cells, rules), ([1, 1], [3, 3]));
+    }
+
+    #[test]
+    fn refused() {
+        assert_eq!(Table::compile(b"\nalias a a\n"), Err(Refusal { number: 12, place: 2 }));
+    }
+}

@@ -1,0 +1,5 @@
+pub mod Forms
+pub mod Reading
+pub mod Encoding
+pub mod Plain
+pub mod Words

@@ -1,0 +1,20 @@
+use borrow.Author.Needs.{needs}
+use Rattle.lines.specs.Texts.{compiledReply}
+use Rattle.heathdapple.proofs.WholeTables.{short-code, short-left, long-code, cells-left}
+use Rattle.heathdapple.proofs.heathdapple_attribute_cells.Statement.{statement}
+use Rattle.heathdapple.proofs.heathdapple_attribute_cells.Tie as tie
+
+pub heathdapple-attribute-cells-spec : {M : Type 1} → statement M
+heathdapple-attribute-cells-spec =
+    tie.close
+    (tie.spec
+    (λ c κs. search needs)
+    (λ c. (search (short-code (λ count. count)), search short-left))
+    (λ c κs. search needs)
+    (λ c. search needs)
+    (λ c κs. search needs)
+    (λ c. search needs)
+    (λ c κs. search needs)
+    (λ c. search needs)
+    (λ c. (search (long-code compiledReply (λ count. count)), search cells-left))
+    (λ c. (search (long-code compiledReply (λ count. count)), search cells-left)))
