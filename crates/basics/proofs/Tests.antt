@@ -2,6 +2,8 @@
 use Prim.Native.Nat.{ℕ}
 use mathlib.Core.Path.{_≡_, refl, sym, _∙_}
 use mathlib.Core.Bool.{Bool, true, false, _&&_}
+use mathlib.Core.List.{List, map}
+use lib.ListN.{length, length-map}
 use borrow.Author.Tests.{lt-ltb, le-ltb, le-leb, lt-leb, eq-eqb, ne-eqb}
 use Rattle.basics.specs.Choice.{pick, ifCharacter}
 use Rattle.basics.specs.declared.Maybe.{Maybe}
@@ -58,3 +60,7 @@ same-twice b a = either (λ x. x ≡ a) b refl refl
 pub both : (s t : Bool) → (s && t) ≡ true → (s ≡ true) × (t ≡ true)
 both true t q = (refl, q)
 both false t q = (cc, cc)
+
+-- the length of an array of structs that is a field
+pub length-field : (X Y : Type 0) (f : X → Y) (l : List X) (n : ℕ) → length (map f l) ≡ n → length l ≡ n
+length-field X Y f l n e = sym (length-map l f) ∙ e

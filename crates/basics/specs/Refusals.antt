@@ -1,11 +1,11 @@
--- The refusals by number, and what any call answers in the numbers of document 01.
+-- The refusals by number, and what any call answers in the numbers of the papers.
 use Prim.Native.Nat.{ℕ}
 use Rattle.basics.specs.declared.Refusal.{Refusal}
 use Rattle.basics.specs.declared.Refusal.the-variants as R
 use Rattle.basics.specs.declared.Filling.{Filling}
 use Rattle.basics.specs.declared.Filling.the-variants as F
 
--- the table "Numbers of refusal"
+-- document 01's table "Numbers of refusal", and behind it those of document 02
 abbrev pub numberOf : Refusal → ℕ
 numberOf R.TextTooLong = 1
 numberOf R.ShortSlice = 2
@@ -23,6 +23,8 @@ numberOf R.TableFull = 13
 numberOf R.NotScalar = 14
 numberOf R.NotTable = 15
 numberOf R.BadState = 16
+numberOf R.StrayBlockWord = 17
+numberOf R.UnclosedBlock = 18
 
 -- what a call answers: its value, or the number and the place of its refusal
 pub data Reply (A : Type 0) : Type 0 where

@@ -20,6 +20,8 @@ pub enum Refusal {
     NotScalar,
     NotTable,
     BadState,
+    StrayBlockWord,
+    UnclosedBlock,
 }
 
 // A character, where there is one: a base character, a stand-in, an alias target, what a cell types.
@@ -62,5 +64,7 @@ pub fn number_of(refusal: Refusal) -> u8
         Refusal::NotScalar => 14,
         Refusal::NotTable => 15,
         Refusal::BadState => 16,
+        Refusal::StrayBlockWord => 17,
+        Refusal::UnclosedBlock => 18,
     }
 }

@@ -93,7 +93,9 @@ fn refusal_of(number: u32) -> Refusal {
         13 => Refusal::TableFull,
         14 => Refusal::NotScalar,
         15 => Refusal::NotTable,
-        _ => Refusal::BadState,
+        16 => Refusal::BadState,
+        17 => Refusal::StrayBlockWord,
+        _ => Refusal::UnclosedBlock,
     }
 }
 

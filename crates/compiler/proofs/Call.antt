@@ -1,65 +1,86 @@
--- The compile call: the loop over the lines of a text, with the words that they fill, and what the call answers and writes.
+-- The compile call: the loop over the lines of a text, with the words that they fill and the blocks that they open, and what the call answers and writes.
 use Prim.Native.Nat.{ℕ, _+_, _-_, _≤_, _<_}
-use mathlib.Core.Path.{_≡_, refl, _∙_}
-use mathlib.Core.List.{List, _++_}
+use mathlib.Core.Path.{_≡_, refl, sym, _∙_}
+use mathlib.Core.List.{List, _∷_, _++_}
 use native.Mathlib.Omega.{arith}
 use lib.ListN.{length, take, drop, replicate}
 use borrow.Author.Tests.{lt-ltb, le-ltb}
 use Rattle.basics.specs.declared.Refusal.{Refusal}
-use Rattle.basics.specs.declared.Refusal.the-variants.{ShortSlice, TextTooLong}
+use Rattle.basics.specs.declared.Refusal.the-variants.{ShortSlice, TextTooLong, UnclosedBlock}
 use Rattle.lines.specs.Lines.{withoutCR}
-use Rattle.lines.specs.Texts.{textLimit, compiledReply, runText}
+use Rattle.lines.specs.Texts.{textLimit, accepted, compiledReply, runText}
 use Rattle.lines.specs.Internal.{LineEnd}
 use Rattle.lines.specs.declared.Compiled.{Compiled}
 use Rattle.lines.specs.declared.Compiled.the-variants.{Accepted, Refused}
 use Rattle.lines.specs.declared.Stopped.the-variants.{No, By}
 use Rattle.lines.proofs.Texts.{Reached, lines-read, line-refused, line-read}
+use Rattle.blocks.specs.Internal.{stack, startsOf}
+use Rattle.blocks.proofs.Stacks.{stack-none}
 use Rattle.table.specs.Words.{tableWords, definitions}
 use Rattle.table.specs.Internal.{Written}
 use Rattle.table.proofs.Written.{zeroed-beyond, written-length}
-use Rattle.compiler.specs.Compile.{step, compiled, compileReply, compileWords}
-use Rattle.compiler.specs.Internal.{Leaves, LinesRead}
+use Rattle.compiler.specs.Compile.{begun, step, closing, compiled, compileReply, compileWords}
+use Rattle.compiler.specs.Internal.{standing, Ready, Leaves, Settled}
+use Rattle.compiler.specs.declared.State.{State}
 use Rattle.compiler.specs.declared.Stepped.{Stepped}
+use Rattle.compiler.proofs.Effects.{step-counts}
 
 -- ---- the lines
 
--- where the loop has come to: what the text still gives, after the definitions of the words. It began with zeroed
-pub record Come (text zeroed ws : List ℕ) (count at n : ℕ) : Type 0 where
-  pub reached : Reached step text (compiled text) at n (definitions count ws)
-  pub written : Written ws count
+-- where the loop has come to: what the text still gives, after the words and the state of the lines before. It began with zeroed
+pub record Come (text zeroed ws : List ℕ) (s : State) (at : ℕ) : Type 0 where
+  pub reached : Reached step text (runText step begun text) at (s .lines + 1) (standing ws s)
+  pub ready : Ready ws s
   pub beyond : drop tableWords ws ≡ drop tableWords zeroed
   pub same : length ws ≡ length zeroed
 
-pub come-first : (text zeroed : List ℕ) → Written zeroed 0 → length text ≤ textLimit → Come text zeroed zeroed 0 0 1
-unfolding definitions compiled runText
-come-first text zeroed w short = record {
-  reached = record { within = omega arith; count = omega arith; left = rw (le-ltb _ _ short) };
-  written = w;
+pub come-first : (text zeroed : List ℕ) (s : State) → Written zeroed 0 → length text ≤ textLimit → (s .count ≡ 0) × (s .lines ≡ 0) × (s .blocks .depth ≡ 0) → Come text zeroed zeroed s 0
+unfolding definitions runText stack
+come-first text zeroed s w short q = record {
+  reached = record { within = omega arith; count = omega (arith, q .1); left = rw (le-ltb _ _ short, q .0, q .1, q .2) };
+  ready = record { written = rw (q .0) w; depth = omega (arith, q .2) };
   beyond = refl;
   same = refl;
 }
 
-module _ (text zeroed ws : List ℕ) (count at n : ℕ) (here : Come text zeroed ws count at n) where
-  pub come-end : length text ≤ at → LinesRead text zeroed (Accepted count) ws
-  come-end h =
-      let gives = lines-read step text (compiled text) at n (definitions count ws) (here .reached) h in
-      record { answer = rw (gives, written-length ws count (here .written)); words = here .written .image ∙ rw (gives, here .beyond) }
+module _ (text zeroed ws : List ℕ) (s : State) (at : ℕ) (here : Come text zeroed ws s at) where
+  pub come-end : {r : Compiled} {last : List ℕ} → length text ≤ at → Settled (closing (accepted (standing ws s))) ws r last → Settled (compiled text) zeroed r last
+  unfolding compiled
+  come-end h t =
+      let gives = lines-read step text (runText step begun text) at (s .lines + 1) (standing ws s) (here .reached) h in
+      record { answer = t .answer ∙ rw gives; words = t .words ∙ rw (gives, here .beyond) }
 
   -- the next line ends at e, and leaves r and new
-  module _ (e : ℕ) (r : Stepped) (new : List ℕ) (some : at < length text) (ends : LineEnd text at e) (left : Leaves ws count (withoutCR (take (e - at) (drop at text))) r new) where
-    pub come-on : r .stopped ≡ No → length new ≡ length ws → Come text zeroed new (r .count) (e + 1) (n + 1)
-    come-on q same = record {
-      reached = line-read step text (compiled text) at n (definitions count ws) (here .reached) e (r .stopped) (definitions (r .count) new) some ends (left .does) q;
-      written = left .written;
-      beyond = left .beyond ∙ here .beyond;
-      same = same ∙ here .same;
-    }
+  module _ (e : ℕ) (r : Stepped) (new : List ℕ) (some : at < length text) (ends : LineEnd text at e) (left : Leaves ws s (withoutCR (take (e - at) (drop at text))) r new) where
+    pub come-on : r .stopped ≡ No → length new ≡ length ws → Come text zeroed new (r .state) (e + 1)
+    come-on q same =
+        let counts = step-counts (standing ws s) (withoutCR (take (e - at) (drop at text))) (sym (rw q at (left .does))) in
+        record {
+          reached = rw (← counts) at (line-read step text (runText step begun text) at (s .lines + 1) (standing ws s) (here .reached) e (r .stopped) (standing new (r .state)) some ends (left .does) q);
+          ready = left .ready;
+          beyond = left .beyond ∙ here .beyond;
+          same = same ∙ here .same;
+        }
 
     -- the words are zeroed again
-    pub come-refused : {refusal : Refusal} {last : List ℕ} → r .stopped ≡ By refusal → last ≡ replicate tableWords 0 ++ drop tableWords new → LinesRead text zeroed (Refused refusal n) last
+    pub come-refused : {refusal : Refusal} {last : List ℕ} → r .stopped ≡ By refusal → last ≡ replicate tableWords 0 ++ drop tableWords new → Settled (compiled text) zeroed (Refused refusal (s .lines + 1)) last
+    unfolding compiled
     come-refused {refusal} q z =
-        let gives = line-refused step text (compiled text) at n (definitions count ws) (here .reached) e (r .stopped) (definitions (r .count) new) some ends (left .does) refusal q in
+        let gives = line-refused step text (runText step begun text) at (s .lines + 1) (standing ws s) (here .reached) e (r .stopped) (standing new (r .state)) some ends (left .does) refusal q in
         record { answer = rw gives; words = z ∙ rw (gives, left .beyond, here .beyond) }
+
+-- ---- the end of the text
+
+module _ (ws : List ℕ) (s : State) where
+  pub end-closed : Ready ws s → s .blocks .depth ≡ 0 → Settled (closing (accepted (standing ws s))) ws (Accepted (s .count)) ws
+  end-closed w e =
+      let none = stack-none 0 (s .blocks .starts) (s .blocks .depth) e in
+      record { answer = rw (none, written-length ws (s .count) (w .written)); words = rw none (w .written .image) }
+
+  -- the words are zeroed again
+  pub end-open : (line : ℕ) (outer : List ℕ) {last : List ℕ} → startsOf (s .blocks) ≡ line ∷ outer → last ≡ replicate tableWords 0 ++ drop tableWords ws
+      → Settled (closing (accepted (standing ws s))) ws (Refused UnclosedBlock line) last
+  end-open line outer e z = record { answer = rw e; words = z ∙ rw e }
 
 -- ---- the call
 
@@ -77,7 +98,7 @@ module _ (text entry : List ℕ) where
     unfolding compileReply compileWords compiled runText
     too-long h = (rw (le-ltb _ _ enough, lt-ltb _ _ h), rw (le-ltb _ _ enough, lt-ltb _ _ h))
 
-    module _ (zeroed : List ℕ) (r : Compiled) (ws : List ℕ) (read : LinesRead text zeroed r ws) where
+    module _ (zeroed : List ℕ) (r : Compiled) (ws : List ℕ) (read : Settled (compiled text) zeroed r ws) where
       pub read-answer : compiledReply r ≡ compileReply text (length entry)
       unfolding compileReply
       read-answer = read .answer ∙ rw (le-ltb _ _ enough)

@@ -1,5 +1,5 @@
 -- What an accepted text takes: its definitions are admitted and in range, and bytes after a text go on from where it left off.
-use Prim.Native.Nat.{ℕ, _+_, _≤_}
+use Prim.Native.Nat.{ℕ, suc, _+_, _≤_}
 use mathlib.Core.Path.{_≡_, refl, sym, _∙_}
 use mathlib.Core.Bool.{Bool, true, false}
 use mathlib.Core.List.{List, [], _∷_, _++_, append-nil}
@@ -12,15 +12,17 @@ use Rattle.basics.specs.Choice.{pick}
 use Rattle.basics.specs.Refusals.{answered, refused}
 use Rattle.basics.specs.declared.Refusal.the-variants.{TextTooLong}
 use Rattle.lines.specs.Lines.{linesOf, withoutCR, isEnded}
-use Rattle.lines.specs.Texts.{textLimit, Outcome, accepted, rejected, onStep, runLines, runText}
-use Rattle.lines.proofs.Texts.{lines-append, run-append}
+use Rattle.lines.specs.Texts.{textLimit, next, Outcome, accepted, rejected, onStep, runLines, runText}
+use Rattle.lines.proofs.Texts.{lines-append, run-keeps, run-append}
+use Rattle.blocks.specs.declared.OpenBlock.{OpenBlock}
+use Rattle.blocks.proofs.Stacks.{after-alike}
 use Rattle.definitions.specs.declared.Definition.{Definition}
 use Rattle.definitions.proofs.Admission.{Admits}
 use Rattle.table.specs.Words.{tableWords, imageOf}
 use Rattle.table.proofs.Readback.{AllInRange}
-use Rattle.compiler.specs.Compile.{lineEffect, withEffect, step, compiled, andAfter, effects, compiledCount, compileReply, compileWords}
+use Rattle.compiler.specs.Compile.{lineEffect, SoFar, begun, withEffect, step, closedBy, closing, compiled, andAfter, effectsWithin, effects, compiledCount, compileReply, compileWords}
 use Rattle.reader.specs.declared.Reading.{Reading}
-use Rattle.reader.specs.declared.Reading.the-variants.{Fault, NoEffect, Define}
+use Rattle.reader.specs.declared.Reading.the-variants.{Fault, NoEffect, Define, Block}
 use Rattle.compiler.proofs.Effects.{effect-in-range, effect-admitted}
 
 -- after the definitions ds those of rs take effect, and gs are all
@@ -30,46 +32,79 @@ pub record Took (ds gs rs : List Definition) : Type 0 where
   pub fit : AllInRange rs
 
 -- lines that are all accepted take what takes effect at them
-pub run-took : (ls : List (List ℕ)) (n : ℕ) (ds : List Definition) {gs : List Definition} → runLines step ls n ds ≡ accepted gs → Took ds gs (effects ds ls)
-unfolding runLines step effects
-run-took [] n ds e = record { after = cc (append-nil ds); admits = tt; fit = tt }
-run-took (l ∷ ls) n ds {gs} e = go (λ ds. run-took ls (n + 1) ds) (lineEffect ds (withoutCR l)) refl e
+pub run-took : (ls : List (List ℕ)) (n : ℕ) (s : SoFar) {g : SoFar} → runLines step ls n s ≡ accepted g → Took (s .definitions) (g .definitions) (effectsWithin (s .blocks) (s .definitions) ls)
+unfolding runLines step effectsWithin
+run-took [] n s e = record { after = cc (append-nil (s .definitions)); admits = tt; fit = tt }
+run-took (l ∷ ls) n s {g} e = go (λ t. run-took ls (n + 1) t) (lineEffect (s .definitions) (s .blocks) (withoutCR l)) refl e
   where
-    go : ((ds : List Definition) → runLines step ls (n + 1) ds ≡ accepted gs → Took ds gs (effects ds ls)) → (r : Reading) → lineEffect ds (withoutCR l) ≡ r
-        → onStep (withEffect ds r) n (λ ds. runLines step ls (n + 1) ds) ≡ accepted gs → Took ds gs (andAfter ds r (λ ds. effects ds ls))
+    go : ((t : SoFar) → runLines step ls (n + 1) t ≡ accepted g → Took (t .definitions) (g .definitions) (effectsWithin (t .blocks) (t .definitions) ls))
+        → (r : Reading) → lineEffect (s .definitions) (s .blocks) (withoutCR l) ≡ r → onStep (withEffect s r) n (λ t. runLines step ls (n + 1) t) ≡ accepted g
+        → Took (s .definitions) (g .definitions) (andAfter (s .definitions) (s .blocks) r (λ ds bs. effectsWithin bs ds ls))
     go ih (Fault refusal left) p e = record { after = cc; admits = tt; fit = tt }
-    go ih NoEffect p e = ih ds e
+    go ih NoEffect p e = ih _ e
+    go ih (Block read) p e = ih _ e
     go ih (Define d left) p e =
-        let rest = ih (ds ++ d ∷ []) e in
+        let rest = ih _ e in
         record {
           after = rw append-snoc at (rest .after);
-          admits = (effect-admitted ds (withoutCR l) p, rest .admits);
-          fit = (effect-in-range ds (withoutCR l) p, rest .fit);
+          admits = (effect-admitted (s .definitions) (s .blocks) (withoutCR l) p, rest .admits);
+          fit = (effect-in-range (s .definitions) (s .blocks) (withoutCR l) p, rest .fit);
         }
 
--- an accepted text is not too long, and its lines are accepted
+-- each open block has the line that opened it
+abbrev Alike : SoFar → Type 0
+Alike s = length (s .blocks) ≡ length (s .starts)
+
+step-alike : (s : SoFar) (line : List ℕ) (s′ : SoFar) → step s line ≡ next s′ → Alike s → Alike s′
+unfolding step
+step-alike s line s′ e h = go (lineEffect (s .definitions) (s .blocks) line) e
+  where
+    go : (r : Reading) → withEffect s r ≡ next s′ → Alike s′
+    go (Fault refusal left) e = cc
+    go NoEffect e = cc
+    go (Define d left) e = cc
+    go (Block read) e = cc (after-alike read (s .lines + 1) (s .blocks) (s .starts) h)
+
+-- an accepted text is not too long, its lines are accepted, and no block is open behind them
 pub record AcceptedText (text : List ℕ) (ds : List Definition) : Type 0 where
   pub short : length text ≤ textLimit
-  pub lines : runLines step (linesOf text) 1 [] ≡ accepted ds
+  pub left : SoFar
+  pub lines : runLines step (linesOf text) 1 begun ≡ accepted left
+  pub none : left .blocks ≡ []
+  pub all : left .definitions ≡ ds
+
+lines-accepted : (text : List ℕ) (o : Outcome SoFar) {ds : List Definition} → length text ≤ textLimit → runLines step (linesOf text) 1 begun ≡ o → closing o ≡ accepted ds → AcceptedText text ds
+lines-accepted text (rejected refusal line) h p e = absurd (let z : _≡_ {A = ℕ} 0 1 = cc in omega arith)
+lines-accepted text (accepted s) {ds} h p e = go (s .blocks) refl (s .starts) (run-keeps step Alike step-alike (linesOf text) 1 begun p refl) e
+  where
+    go : (bs : List OpenBlock) → s .blocks ≡ bs → (starts : List ℕ) → length (s .blocks) ≡ length starts → closedBy starts (s .definitions) ≡ accepted ds → AcceptedText text ds
+    go bs q (line ∷ starts) a e = absurd (let z : _≡_ {A = ℕ} 0 1 = cc in omega arith)
+    go [] q [] a e = record { short = h; left = s; lines = p; none = q; all = cc }
+    go (b ∷ bs) q [] a e = absurd (let z : suc (length bs) ≡ 0 = rw q at a in omega arith)
 
 pub text-accepted : (text : List ℕ) {ds : List Definition} → compiled text ≡ accepted ds → AcceptedText text ds
 unfolding compiled runText
 text-accepted text {ds} e = go (ltb textLimit (length text)) refl e
   where
-    go : (b : Bool) → ltb textLimit (length text) ≡ b → pick b (rejected TextTooLong 0) (runLines step (linesOf text) 1 []) ≡ accepted ds → AcceptedText text ds
+    go : (b : Bool) → ltb textLimit (length text) ≡ b → closing (pick b (rejected TextTooLong 0) (runLines step (linesOf text) 1 begun)) ≡ accepted ds → AcceptedText text ds
     go true p e = absurd (let z : _≡_ {A = ℕ} 0 1 = cc in omega arith)
-    go false p e = record { short = ltb-false textLimit (length text) p; lines = e }
+    go false p e = lines-accepted text (runLines step (linesOf text) 1 begun) (ltb-false textLimit (length text) p) refl e
 
 -- an accepted text takes all its definitions
 pub whole-took : (text : List ℕ) {ds : List Definition} → compiled text ≡ accepted ds → Took [] ds ds
-whole-took text e = let r = run-took (linesOf text) 1 [] (text-accepted text e .lines) in rw (← r .after) at r
+whole-took text e =
+    let a = text-accepted text e in
+    let r = rw (a .all) at (run-took (linesOf text) 1 begun (a .lines)) in
+    rw (← r .after) at r
 
 -- bytes after a text that is empty or ends in LF take what takes effect at their lines, after the text's definitions
 pub grown-took : (text more : List ℕ) {ds gs : List Definition} → isEnded text ≡ true → compiled text ≡ accepted ds → compiled (text ++ more) ≡ accepted gs
     → Took ds gs (effects ds (linesOf more))
-grown-took text more {ds} ended p q =
-    run-took (linesOf more) (1 + length (linesOf text)) ds
-    (sym (run-append step (linesOf text) (linesOf more) 1 [] (text-accepted text p .lines)) ∙ (rw (lines-append text more ended) at (text-accepted (text ++ more) q .lines)))
+grown-took text more {ds} {gs} ended p q =
+    let a = text-accepted text p in
+    let b = text-accepted (text ++ more) q in
+    let run = sym (run-append step (linesOf text) (linesOf more) 1 begun (a .lines)) ∙ (rw (lines-append text more ended) at (b .lines)) in
+    rw (a .all, a .none, b .all) at (run-took (linesOf more) (1 + length (linesOf text)) (a .left) run)
 
 -- ---- the compile call
 

@@ -1,13 +1,16 @@
--- Compiling: what a line does to the definitions so far, and what the compile call answers and writes.
-use Prim.Native.Nat.{ℕ}
+-- Compiling: what a line does to the definitions and the open blocks so far, and what the compile call answers and writes.
+use Prim.Native.Nat.{ℕ, _+_}
 use mathlib.Core.Bool.{_||_}
 use mathlib.Core.List.{List, [], _∷_, _++_}
 use lib.ListN.{length, drop, replicate}
 use lib.Dec.{ltb}
 use Rattle.basics.specs.Choice.{pick}
 use Rattle.basics.specs.Refusals.{Reply, refused}
+use Rattle.basics.specs.declared.Refusal.the-variants.{UnclosedBlock}
 use Rattle.lines.specs.Lines.{withoutCR}
 use Rattle.lines.specs.Texts.{textLimit, Step, next, stop, Outcome, accepted, rejected, runText, outcomeReply}
+use Rattle.blocks.specs.Blocks.{aroundOf, blocksAfter, startsAfter}
+use Rattle.blocks.specs.declared.OpenBlock.{OpenBlock}
 use Rattle.definitions.specs.declared.Definition.{Definition}
 use Rattle.definitions.specs.declared.Verdict.{Verdict}
 use Rattle.definitions.specs.declared.Verdict.the-variants as Judged
@@ -15,7 +18,7 @@ use Rattle.definitions.specs.Effects.{verdictOf}
 use Rattle.table.specs.Words.{tableWords, imageOf}
 use Rattle.reader.specs.Reader.{readLine}
 use Rattle.reader.specs.declared.Reading.{Reading}
-use Rattle.reader.specs.declared.Reading.the-variants.{Fault, NoEffect, Define}
+use Rattle.reader.specs.declared.Reading.the-variants.{Fault, NoEffect, Define, Block}
 
 -- 11, 12, 13, which only a definition that takes effect can give
 abbrev pub judged : Verdict → Definition → ℕ → Reading
@@ -26,45 +29,76 @@ abbrev pub effectOf : List Definition → Reading → Reading
 effectOf ds (Fault refusal left) = Fault refusal left
 effectOf ds NoEffect = NoEffect
 effectOf ds (Define d left) = judged (verdictOf ds d) d left
+effectOf ds (Block line) = Block line
 
--- what a line does: its first fault, nothing, or the definition that takes effect
-unfoldable pub lineEffect : List Definition → List ℕ → Reading
-lineEffect ds line = effectOf ds (readLine ds line)
+-- what a line does inside these open blocks: its first fault, nothing, the definition that takes effect, or what it does to the blocks
+unfoldable pub lineEffect : List Definition → List OpenBlock → List ℕ → Reading
+lineEffect ds bs line = effectOf ds (readLine ds (aroundOf bs) line)
 
--- the definitions so far with what takes effect at a line
-abbrev pub withEffect : List Definition → Reading → Step (List Definition)
-withEffect ds (Fault refusal left) = stop refusal
-withEffect ds NoEffect = next ds
-withEffect ds (Define d left) = next (ds ++ d ∷ [])
+-- what the lines so far leave: their definitions, the open blocks, the lines that opened these, and how many lines there were
+pub record SoFar : Type 0 where
+  pub definitions : List Definition
+  pub blocks : List OpenBlock
+  pub starts : List ℕ
+  pub lines : ℕ
 
-unfoldable pub step : List Definition → List ℕ → Step (List Definition)
-step ds line = withEffect ds (lineEffect ds line)
+abbrev pub soFar : List Definition → List OpenBlock → List ℕ → ℕ → SoFar
+soFar ds bs starts lines = record { definitions = ds; blocks = bs; starts = starts; lines = lines }
+
+-- before the first line
+abbrev pub begun : SoFar
+begun = soFar [] [] [] 0
+
+-- one line more, with what takes effect at it
+abbrev pub withEffect : SoFar → Reading → Step SoFar
+withEffect s (Fault refusal left) = stop refusal
+withEffect s NoEffect = next (soFar (s .definitions) (s .blocks) (s .starts) (s .lines + 1))
+withEffect s (Define d left) = next (soFar (s .definitions ++ d ∷ []) (s .blocks) (s .starts) (s .lines + 1))
+withEffect s (Block line) =
+    next (soFar (s .definitions) (blocksAfter line (s .blocks)) (startsAfter line (s .lines + 1) (s .starts)) (s .lines + 1))
+
+unfoldable pub step : SoFar → List ℕ → Step SoFar
+step s line = withEffect s (lineEffect (s .definitions) (s .blocks) line)
+
+-- 18, after all line faults: a block that is open at the end, at the line that opened the innermost
+abbrev pub closedBy : List ℕ → List Definition → Outcome (List Definition)
+closedBy [] ds = accepted ds
+closedBy (line ∷ starts) ds = rejected UnclosedBlock line
+
+abbrev pub closing : Outcome SoFar → Outcome (List Definition)
+closing (accepted s) = closedBy (s .starts) (s .definitions)
+closing (rejected refusal line) = rejected refusal line
 
 -- the definitions of a text
 unfoldable pub compiled : List ℕ → Outcome (List Definition)
-compiled text = runText step [] text
+compiled text = closing (runText step begun text)
 
--- the definitions that take effect at some lines, after those of the lines before
-abbrev pub andAfter : List Definition → Reading → (List Definition → List Definition) → List Definition
-andAfter ds (Fault refusal left) more = []
-andAfter ds NoEffect more = more ds
-andAfter ds (Define d left) more = d ∷ more (ds ++ d ∷ [])
+-- the definitions that take effect at some lines, after the definitions and inside the open blocks of the lines before
+abbrev pub andAfter : List Definition → List OpenBlock → Reading → (List Definition → List OpenBlock → List Definition) → List Definition
+andAfter ds bs (Fault refusal left) more = []
+andAfter ds bs NoEffect more = more ds bs
+andAfter ds bs (Define d left) more = d ∷ more (ds ++ d ∷ []) bs
+andAfter ds bs (Block line) more = more ds (blocksAfter line bs)
 
-unfoldable pub effects : List Definition → List (List ℕ) → List Definition
-effects ds [] = []
-effects ds (l ∷ ls) = andAfter ds (lineEffect ds (withoutCR l)) (λ ds′. effects ds′ ls)
+unfoldable pub effectsWithin : List OpenBlock → List Definition → List (List ℕ) → List Definition
+effectsWithin bs ds [] = []
+effectsWithin bs ds (l ∷ ls) = andAfter ds bs (lineEffect ds bs (withoutCR l)) (λ ds′ bs′. effectsWithin bs′ ds′ ls)
+
+-- where no block is open before the first of the lines
+abbrev pub effects : List Definition → List (List ℕ) → List Definition
+effects ds ls = effectsWithin [] ds ls
 
 -- the answer: the count of definitions, or the refusal with its line
 abbrev pub compiledCount : Outcome (List Definition) → Reply ℕ
 compiledCount outcome = outcomeReply (λ (ds : List Definition). length ds) outcome
 
--- the compile call, for a slice of so many words: 2, then 1, then the first faulty line
+-- the compile call, for a slice of so many words: 2, then 1, then the first faulty line, then a block that is open at the end
 unfoldable pub compileReply : List ℕ → ℕ → Reply ℕ
 compileReply text words =
     let read : Reply ℕ = compiledCount (compiled text) in
     pick (ltb words tableWords) (refused 2 0) read
 
--- the 2,048 words: zero where a line is refused
+-- the 2,048 words: zero where the text is refused
 abbrev pub outcomeWords : Outcome (List Definition) → List ℕ
 outcomeWords (accepted ds) = imageOf ds
 outcomeWords (rejected refusal line) = replicate tableWords 0

@@ -1,23 +1,41 @@
--- What the code knows beyond the rules: the words between two lines, and after the last.
-use Prim.Native.Nat.{ℕ}
+-- What the code knows beyond the rules: the words and the state between two lines, and after the last.
+use Prim.Native.Nat.{ℕ, _+_, _≤_}
 use mathlib.Core.Path.{_≡_}
 use mathlib.Core.List.{List, _++_}
 use lib.ListN.{drop}
-use Rattle.lines.specs.Texts.{compiledReply}
+use Rattle.lines.specs.Texts.{Outcome, compiledReply}
 use Rattle.lines.specs.Internal.{leaves}
 use Rattle.lines.specs.declared.Compiled.{Compiled}
+use Rattle.lines.specs.declared.Stopped.the-variants.{No}
+use Rattle.blocks.specs.Blocks.{depthLimit}
+use Rattle.blocks.specs.Internal.{blocksOf, startsOf}
+use Rattle.blocks.specs.declared.Blocks.{Blocks}
+use Rattle.definitions.specs.declared.Definition.{Definition}
 use Rattle.table.specs.Words.{tableWords, definitions}
 use Rattle.table.specs.Internal.{Written}
-use Rattle.compiler.specs.Compile.{step, compiled, compiledCount, outcomeWords}
+use Rattle.compiler.specs.Compile.{SoFar, soFar, step, compiledCount, outcomeWords}
+use Rattle.compiler.specs.declared.State.{State}
 use Rattle.compiler.specs.declared.Stepped.{Stepped}
 
--- what a line leaves, from the words before it: a refused one leaves them as they were
-pub record Leaves (old : List ℕ) (count : ℕ) (line : List ℕ) (r : Stepped) (new : List ℕ) : Type 0 where
-  pub does : leaves (r .stopped) (definitions (r .count) new) ≡ step (definitions count old) line
-  pub written : Written new (r .count)
+-- what words and a state stand for
+abbrev pub standing : List ℕ → State → SoFar
+standing ws s = soFar (definitions (s .count) ws) (blocksOf (s .blocks)) (startsOf (s .blocks)) (s .lines)
+
+pub record Ready (ws : List ℕ) (s : State) : Type 0 where
+  pub written : Written ws (s .count)
+  pub depth : s .blocks .depth ≤ depthLimit
+
+-- one line more that was not refused
+abbrev pub goneOn : ℕ → ℕ → Blocks → Stepped
+goneOn count lines blocks = record { stopped = No; state = record { count = count; lines = lines + 1; blocks = blocks } }
+
+-- what a line leaves, from the words and the state before it: a refused one leaves them as they were
+pub record Leaves (old : List ℕ) (s : State) (line : List ℕ) (r : Stepped) (new : List ℕ) : Type 0 where
+  pub does : leaves (r .stopped) (standing new (r .state)) ≡ step (standing old s) line
+  pub ready : Ready new (r .state)
   pub beyond : drop tableWords new ≡ drop tableWords old
 
--- what the lines of a text leave, from zeroed words
-pub record LinesRead (text zeroed : List ℕ) (r : Compiled) (new : List ℕ) : Type 0 where
-  pub answer : compiledReply r ≡ compiledCount (compiled text)
-  pub words : new ≡ outcomeWords (compiled text) ++ drop tableWords zeroed
+-- the answer, and the words, by what a text gives
+pub record Settled (gives : Outcome (List Definition)) (old : List ℕ) (r : Compiled) (new : List ℕ) : Type 0 where
+  pub answer : compiledReply r ≡ compiledCount gives
+  pub words : new ≡ outcomeWords gives ++ drop tableWords old

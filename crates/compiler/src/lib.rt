@@ -1,5 +1,7 @@
-// Compiling a text table: what a line does, and the compile call. Words and a count stand for the definitions so far.
+// Compiling a text table: what a line does, and the compile call. Words and a count stand for the definitions so far, arrays and
+// a depth for the open blocks.
 use basics::Refusal;
+use blocks::Blocks;
 use definitions::Verdict;
 use lines::Compiled;
 use lines::Stopped;
@@ -7,19 +9,28 @@ use lines::TEXT_LIMIT;
 use reader::Reading;
 use table::TABLE_WORDS;
 ghost use mathlib.Core.Path.{_≡_};
-ghost use Prim.Native.Nat.{_*_, _≤_};
+ghost use Prim.Native.Nat.{_*_, _≤_, _<_};
 ghost use lib.ListN.{length};
 ghost use Rattle.lines.specs.Lines.{withoutCR};
-ghost use Rattle.lines.specs.Texts.{textLimit, compiledReply};
+ghost use Rattle.lines.specs.Texts.{textLimit, accepted, compiledReply};
+ghost use Rattle.blocks.specs.Blocks.{depthLimit};
+ghost use Rattle.blocks.specs.Internal.{blocksOf};
 ghost use Rattle.table.specs.Words.{definitions};
 ghost use Rattle.table.specs.Internal.{Written};
-ghost use Rattle.compiler.specs.Compile.{effectOf, lineEffect, compileReply, compileWords};
-ghost use Rattle.compiler.specs.Internal.{Leaves, LinesRead};
+ghost use Rattle.compiler.specs.Compile.{effectOf, lineEffect, closing, compiled, compileReply, compileWords};
+ghost use Rattle.compiler.specs.Internal.{standing, Ready, goneOn, Leaves, Settled};
 
-// What a line leaves: whether it was refused, and how many definitions there are then.
+// What the lines so far leave, beside the words: how many definitions and lines there were, and the open blocks.
+pub struct State {
+    pub count: usize,
+    pub lines: usize,
+    pub blocks: Blocks,
+}
+
+// What a line leaves: whether it was refused, and the state then.
 pub struct Stepped {
     pub stopped: Stopped,
-    pub count: usize,
+    pub state: State,
 }
 
 // What a line as read does: 11 to 13 refuse a definition that would take effect.
@@ -30,6 +41,7 @@ fn effect_of(words: &[u32], count: usize, reading: Reading) -> Reading
     match reading {
         Reading::Fault(refusal, left) => Reading::Fault(refusal, left),
         Reading::NoEffect => Reading::NoEffect,
+        Reading::Block(line) => Reading::Block(line),
         Reading::Define(d, left) => match table::judge(words, count, d) {
             Verdict::Admitted => Reading::Define(d, left),
             Verdict::Refused(refusal) => Reading::Fault(refusal, left),
@@ -37,72 +49,115 @@ fn effect_of(words: &[u32], count: usize, reading: Reading) -> Reading
     }
 }
 
-// What a line, without its end, does: its first fault, nothing, or the definition that takes effect.
-fn line_effect(words: &[u32], count: usize, line: &[u8]) -> Reading
-    requires { ⌜ 2 * count ≤ length (now words) ⌝ }
-    ensures { λ r. ⌜ r ≡ lineEffect (definitions count (now (words .entry))) (now (line .entry)) ⌝ }
+// What a line, without its end, does: its first fault, nothing, the definition that takes effect, or what it does to the
+// open blocks.
+fn line_effect(words: &[u32], count: usize, blocks: Blocks, line: &[u8]) -> Reading
+    requires { ⌜ (2 * count ≤ length (now words)) × (blocks .depth ≤ depthLimit) ⌝ }
+    ensures { λ r. ⌜ r ≡ lineEffect (definitions count (now (words .entry))) (blocksOf blocks) (now (line .entry)) ⌝ }
 {
-    effect_of(words, count, reader::read_line(words, count, line))
+    let around = blocks::around_of(blocks);
+    effect_of(words, count, reader::read_line(words, count, around, line))
 }
 
-// The words after one line more, without its end.
-fn take_line(words: &mut [u32], count: usize, line: &[u8]) -> Stepped
-    requires { ⌜ Written (now words) count ⌝ }
-    ensures { λ r. ⌜ Leaves (now (words .entry)) count (now (line .entry)) r (now (words .exit)) ⌝ }
+// One line more that was not refused.
+fn gone_on(count: usize, lines: usize, blocks: Blocks) -> Stepped
+    requires { ⌜ lines < textLimit ⌝ }
+    ensures { λ r. ⌜ r ≡ goneOn count lines blocks ⌝ }
 {
-    match line_effect(words, count, line) {
+    Stepped {
+        stopped: Stopped::No,
+        state: State {
+            count,
+            lines: lines + 1,
+            blocks,
+        },
+    }
+}
+
+// The words and the state after one line more, without its end.
+fn take_line(words: &mut [u32], state: State, line: &[u8]) -> Stepped
+    requires { ⌜ Ready (now words) state × (state .lines < textLimit) ⌝ }
+    ensures { λ r. ⌜ Leaves (now (words .entry)) state (now (line .entry)) r (now (words .exit)) ⌝ }
+{
+    let count = state.count;
+    let lines = state.lines;
+    let blocks = state.blocks;
+    match line_effect(words, count, blocks, line) {
         Reading::Fault(refusal, _) => Stepped {
             stopped: Stopped::By(refusal),
-            count,
+            state,
         },
-        Reading::NoEffect => Stepped {
-            stopped: Stopped::No,
+        Reading::NoEffect => gone_on(count, lines, blocks),
+        Reading::Block(read) => gone_on(
             count,
-        },
+            lines,
+            blocks::blocks_after(blocks, read, lines + 1),
+        ),
         Reading::Define(d, _) => {
             table::put(words, count, d);
-            Stepped {
-                stopped: Stopped::No,
-                count: count + 1,
-            }
+            gone_on(count + 1, lines, blocks)
         }
     }
 }
 
 // The same of a line with its CR, if it has one.
-fn step_line(words: &mut [u32], count: usize, line: &[u8]) -> Stepped
-    requires { ⌜ Written (now words) count ⌝ }
-    ensures { λ r. ⌜ Leaves (now (words .entry)) count (withoutCR (now (line .entry))) r (now (words .exit)) ⌝ }
+fn step_line(words: &mut [u32], state: State, line: &[u8]) -> Stepped
+    requires { ⌜ Ready (now words) state × (state .lines < textLimit) ⌝ }
+    ensures { λ r. ⌜ Leaves (now (words .entry)) state (withoutCR (now (line .entry))) r (now (words .exit)) ⌝ }
 {
     let n = lines::trimmed(line);
-    take_line(words, count, &line[..n])
+    take_line(words, state, &line[..n])
 }
 
-// Reads the lines of a text into zeroed words; a refused line zeroes them again.
+// Before the first line.
+fn begun() -> State
+    ensures { λ r. ⌜ (r .count ≡ 0) × (r .lines ≡ 0) × (r .blocks .depth ≡ 0) ⌝ }
+{
+    let blocks = blocks::no_blocks();
+    State {
+        count: 0,
+        lines: 0,
+        blocks,
+    }
+}
+
+// The answer after all lines: where a block is open, it is refused at the line that opened the innermost, and the words are
+// zeroed.
+fn close(words: &mut [u32], state: State) -> Compiled
+    requires { ⌜ Ready (now words) state ⌝ }
+    ensures { λ r. ⌜ Settled (closing (accepted (standing (now (words .entry)) state))) (now (words .entry)) r (now (words .exit)) ⌝ }
+{
+    let blocks = state.blocks;
+    if blocks.depth == 0 {
+        return Compiled::Accepted(state.count);
+    }
+    table::clear(words);
+    Compiled::Refused(Refusal::UnclosedBlock, blocks::innermost(blocks))
+}
+
+// Reads the lines of a text into zeroed words; a refusal zeroes them again.
 fn read_lines(words: &mut [u32], text: &[u8]) -> Compiled
     requires { ⌜ (Written (now words) 0) × (length (now text) ≤ textLimit) ⌝ }
-    ensures { λ r. ⌜ LinesRead (now (text .entry)) (now (words .entry)) r (now (words .exit)) ⌝ }
+    ensures { λ r. ⌜ Settled (compiled (now (text .entry))) (now (words .entry)) r (now (words .exit)) ⌝ }
 {
-    let mut count = 0;
-    let mut line = 1;
+    let mut state = begun();
     let mut at = 0;
     while at < text.len() {
         let end = lines::line_end(text, at);
-        let next = step_line(words, count, &text[at..end]);
+        let next = step_line(words, state, &text[at..end]);
         let stopped = next.stopped;
         match stopped {
             Stopped::By(refusal) => {
                 table::clear(words);
-                return Compiled::Refused(refusal, line);
+                return Compiled::Refused(refusal, state.lines + 1);
             }
             Stopped::No => {
-                count = next.count;
+                state = next.state;
             }
         }
         at = end + 1;
-        line += 1;
     }
-    Compiled::Accepted(count)
+    close(words, state)
 }
 
 // Compiles a text table: any bytes, any slice.

@@ -1,2 +1,3 @@
 pub mod Growth
 pub mod Marked
+pub mod Blocks

@@ -1,4 +1,4 @@
--- The cases that document 01 marks with *, as one table.
+-- The cases that document 01 marks with *, as one table; and when a case comes out.
 use Prim.Native.Nat.{ℕ}
 use Prim.Native.String.{String}
 use mathlib.Core.Bool.{Bool, true, false, not, _&&_}
@@ -12,7 +12,7 @@ use Rattle.table.specs.Words.{tableWords}
 use Rattle.lookup.specs.declared.Answer.{Answer}
 use Rattle.lookup.specs.Calls.{lookupReply}
 use Rattle.typing.specs.Typing.{typedBy}
-use Rattle.compiler.specs.Compile.{compileWords}
+use Rattle.compiler.specs.Compile.{compileReply, compileWords}
 use Rattle.attributes.specs.Cells.{attributeCell}
 use Rattle.attributes.specs.Compile.{compiledAttributes, outcomePlaces}
 
@@ -29,6 +29,8 @@ pub data Case : Type 0 where
   typesNothing : String → ℕ → Case
   -- an attributes table and an attribute byte: its cell
   raises : String → ℕ → ℕ → Case
+  -- a text table that is refused: the number and the line
+  refuses : String → ℕ → ℕ → Case
 
 abbrev pub marked : List Case
 marked =
@@ -55,11 +57,16 @@ abbrev pub isAnswer : Reply Answer → ℕ → ℕ → ℕ → Bool
 isAnswer (answered a) cell rule links = eqb (a .cell) cell && (eqb (a .rule) rule && eqb (a .links) links)
 isAnswer (refused number place) cell rule links = false
 
--- whether a case comes out as document 01 has it
+abbrev pub isRefusal : Reply ℕ → ℕ → ℕ → Bool
+isRefusal (answered count) number line = false
+isRefusal (refused number₁ line₁) number line = eqb number₁ number && eqb line₁ line
+
+-- whether a case comes out as it is written
 unfoldable pub comesOut : Case → Bool
 comesOut (shows text c cell rule links) = isAnswer (lookupReply (wordsFor text) c) cell rule links
 comesOut (typesNothing text cell) = not (isCharacter (typedBy (wordsFor text) cell))
 comesOut (raises text byte cell) = eqb (attributeCell (outcomePlaces (compiledAttributes (ascii text))) byte) cell
+comesOut (refuses text number line) = isRefusal (compileReply (ascii text) tableWords) number line
 
 unfoldable pub everyOne : List Case → Bool
 everyOne [] = true

@@ -55,6 +55,16 @@ lines-append (b ∷ c ∷ r) e h = rw (lines-append (c ∷ r) e h) (pick-append 
 -- ---- the lines one after another
 
 module _ {S : Type 0} (step : S → List ℕ → Step S) where
+  -- what each line keeps of a state, all lines keep
+  pub run-keeps : (P : S → Type 0) → ((s : S) (line : List ℕ) (s′ : S) → step s line ≡ next s′ → P s → P s′) → (ls : List (List ℕ)) (n : ℕ) (s : S) {g : S} → runLines step ls n s ≡ accepted g → P s → P g
+  unfolding runLines
+  run-keeps P keeps [] n s {g} e h = let same : s ≡ g = cc in rw same at h
+  run-keeps P keeps (l ∷ ls) n s {g} e h = go (λ s′. run-keeps P keeps ls (n + 1) s′) (step s (withoutCR l)) refl e
+    where
+      go : ((s′ : S) → runLines step ls (n + 1) s′ ≡ accepted g → P s′ → P g) → (a : Step S) → step s (withoutCR l) ≡ a → onStep a n (λ s′. runLines step ls (n + 1) s′) ≡ accepted g → P g
+      go ih (stop r) q e = absurd (let z : _≡_ {A = ℕ} 0 1 = cc in omega arith)
+      go ih (next s′) q e = ih s′ e (keeps s (withoutCR l) s′ q h)
+
   -- where the first lines leave a state, the others go on from it
   pub run-append : (xs ys : List (List ℕ)) (n : ℕ) (s : S) {s′ : S} → runLines step xs n s ≡ accepted s′ → runLines step (xs ++ ys) n s ≡ runLines step ys (n + length xs) s′
   unfolding runLines

@@ -1,4 +1,4 @@
--- A definition that a line gives is in range.
+-- A definition that a line gives is in range, and a block that it opens had room.
 use Prim.Native.Nat.{ℕ, zero, suc, _-_, _<_}
 use mathlib.Core.Path.{_≡_}
 use mathlib.Core.Bool.{Bool, true, false}
@@ -6,11 +6,12 @@ use mathlib.Core.List.{List}
 use lib.ListN.{length, drop}
 use lib.Dec.{eqb}
 use native.Mathlib.Omega.{arith}
-use borrow.Author.Tests.{le-leb}
+use borrow.Author.Tests.{le-leb, eqb-false}
+use Rattle.basics.specs.Ascii.{ascii}
 use Rattle.basics.specs.Choice.{pick}
 use Rattle.basics.specs.declared.Refusal.{Refusal}
 use Rattle.unicode.specs.Characters.{isScalar}
-use Rattle.lines.specs.Words.{wordAt, bytesOf, isOver}
+use Rattle.lines.specs.Words.{wordAt, bytesOf, sameBytes, isOver}
 use Rattle.lines.specs.Texts.{openingOf, ifDirective}
 use Rattle.lines.specs.declared.Opening.{Opening}
 use Rattle.lines.specs.declared.Opening.the-variants as Op
@@ -21,26 +22,32 @@ use Rattle.operands.specs.declared.DotsOperand.{DotsOperand}
 use Rattle.operands.specs.declared.DotsOperand.the-variants as C
 use Rattle.basics.proofs.Tests.{by-test}
 use Rattle.operands.proofs.InRange.{OperandInRange, DotsInRange, value-in-range, dots-in-range}
+use Rattle.blocks.specs.Internal.{RoomFor}
+use Rattle.blocks.specs.declared.BlockLine.{BlockLine}
+use Rattle.blocks.specs.declared.BlockLine.the-variants.{Open, Else, EndIf}
+use Rattle.blocks.specs.declared.Around.{Around}
 use Rattle.definitions.specs.declared.Meaning.{Meaning}
 use Rattle.definitions.specs.declared.Meaning.the-variants as M
 use Rattle.definitions.specs.declared.Definition.{Definition}
 use Rattle.table.proofs.Readback.{InRange, isNumberInRange}
-use Rattle.reader.specs.Reader.{directiveOf, finished, define, dotsLine, aliasLine, glyphCondition, cellCondition, faulty, afterDirective, frontOf, withoutEffect, ifHolds, onFront, readFrom, conditionLimit, readLine}
+use Rattle.reader.specs.Reader.{directiveOf, finished, define, dotsLine, aliasLine, conditionAt, glyphCondition, cellCondition, faulty, afterDirective, frontOf, withoutEffect, ifHolds, onFront, readFrom, blockLine, readFirst, readLine}
 use Rattle.reader.specs.declared.Directive.{Directive}
 use Rattle.reader.specs.declared.Directive.the-variants as D
 use Rattle.reader.specs.declared.Reading.{Reading}
-use Rattle.reader.specs.declared.Reading.the-variants.{Fault, NoEffect, Define}
+use Rattle.reader.specs.declared.Reading.the-variants.{Fault, NoEffect, Define, Block}
 use Rattle.reader.specs.declared.Front.{Front}
 use Rattle.reader.specs.declared.Front.the-variants.{Whole, Condition}
 
-abbrev ReadingInRange : Reading → Type 0
-ReadingInRange (Fault refusal left) = Unit
-ReadingInRange NoEffect = Unit
-ReadingInRange (Define d left) = InRange d
+-- with room for so many conditions
+abbrev ReadingInRange : ℕ → Reading → Type 0
+ReadingInRange room (Fault refusal left) = Unit
+ReadingInRange room NoEffect = Unit
+ReadingInRange room (Define d left) = InRange d
+ReadingInRange room (Block line) = RoomFor room line
 
-abbrev FrontInRange : Front → Type 0
-FrontInRange (Whole reading) = ReadingInRange reading
-FrontInRange (Condition holds rest) = Unit
+abbrev FrontInRange : ℕ → Front → Type 0
+FrontInRange room (Whole reading) = ReadingInRange room reading
+FrontInRange room (Condition holds rest) = Unit
 
 -- what holds of a fault and of each answer in range holds of what follows from an operand
 module _ {A : Type 0} (P : A → Type 0) (bad : Refusal → ℕ → A) (fault : (refusal : Refusal) (left : ℕ) → P (bad refusal left)) where
@@ -60,82 +67,121 @@ module _ {A : Type 0} (P : A → Type 0) (bad : Refusal → ℕ → A) (fault : 
       go (C.Fault refusal left) r = fault refusal left
       go (C.Value cell after) r = h cell after r
 
-finished-in-range : (line : List ℕ) (at c : ℕ) (m : Meaning) (left : ℕ) → isScalar c ≡ true → isNumberInRange m ≡ true
-    → ReadingInRange (finished line at (define c m left))
-unfolding finished
-finished-in-range line at c m left h g = by-test ReadingInRange (isOver line at) (λ e. record { character = h; number = g }) (λ e. tt)
-
 -- dots of either kind
 dots-meaning : (typed : Bool) (cell : ℕ) → cell < 256 → isNumberInRange (pick typed (M.Typed cell) (M.Shown cell)) ≡ true
 dots-meaning true cell l = le-leb cell 255 (omega arith)
 dots-meaning false cell l = le-leb cell 255 (omega arith)
 
-dots-line : (byte typed : Bool) (line : List ℕ) (at left : ℕ) → ReadingInRange (dotsLine byte typed line at left)
-unfolding dotsLine
-dots-line byte typed line at left =
-    each-value ReadingInRange Fault (λ refusal left. tt) byte line at _
-    (λ c after h. each-dots ReadingInRange Fault (λ refusal left. tt) true line after _
-    (λ cell end l. finished-in-range line end c _ left h (dots-meaning typed cell l)))
+module _ (room : ℕ) where
+  finished-in-range : (line : List ℕ) (at : ℕ) (reading : Reading) → ReadingInRange room reading → ReadingInRange room (finished line at reading)
+  unfolding finished
+  finished-in-range line at reading h = by-test (ReadingInRange room) (isOver line at) (λ e. h) (λ e. tt)
 
-alias-line : (line : List ℕ) (at left : ℕ) → ReadingInRange (aliasLine line at left)
-unfolding aliasLine
-alias-line line at left =
-    each-value ReadingInRange Fault (λ refusal left. tt) false line at _
-    (λ c after h. each-value ReadingInRange Fault (λ refusal left. tt) false line after _
-    (λ target end g. finished-in-range line end c (M.Alias target) left h g))
+  dots-line : (byte typed : Bool) (line : List ℕ) (at left : ℕ) → ReadingInRange room (dotsLine byte typed line at left)
+  unfolding dotsLine
+  dots-line byte typed line at left =
+      each-value (ReadingInRange room) Fault (λ refusal left. tt) byte line at _
+      (λ c after h. each-dots (ReadingInRange room) Fault (λ refusal left. tt) true line after _
+      (λ cell end l. finished-in-range line end _ (record { character = h; number = dots-meaning typed cell l })))
 
--- a condition gives no definition
-glyph-front : (ds : List Definition) (wanted : Bool) (line : List ℕ) (at : ℕ) → FrontInRange (glyphCondition ds wanted line at)
-unfolding glyphCondition
-glyph-front ds wanted line at = each-value FrontInRange faulty (λ refusal left. tt) false line at _ (λ c after h. tt)
+  alias-line : (line : List ℕ) (at left : ℕ) → ReadingInRange room (aliasLine line at left)
+  unfolding aliasLine
+  alias-line line at left =
+      each-value (ReadingInRange room) Fault (λ refusal left. tt) false line at _
+      (λ c after h. each-value (ReadingInRange room) Fault (λ refusal left. tt) false line after _
+      (λ target end g. finished-in-range line end _ (record { character = h; number = g })))
 
-cell-front : (ds : List Definition) (wanted : Bool) (line : List ℕ) (at : ℕ) → FrontInRange (cellCondition ds wanted line at)
-unfolding cellCondition
-cell-front ds wanted line at = each-dots FrontInRange faulty (λ refusal left. tt) false line at _ (λ cell after l. tt)
+  -- a condition gives no definition, and is read only where there is room
+  module _ (some : 0 < room) (line : List ℕ) where
+    condition-front : (after : ℕ) (holds : Bool) → FrontInRange room (conditionAt line after holds)
+    unfolding conditionAt
+    condition-front after holds = by-test (FrontInRange room) (isOver line after) (λ e. some) (λ e. tt)
 
-front-in-range : (ds : List Definition) (room : ℕ) (line : List ℕ) → FrontInRange (frontOf ds room line)
-unfolding frontOf
-front-in-range ds room line =
-    let w = wordAt line 0 in
-    by-test FrontInRange (isOver line 0) (λ e. tt) (λ e. go (directiveOf (bytesOf line w)) (w .end) (length line - w .start))
-  where
-    go : (directive : Directive) (at left : ℕ) → FrontInRange (afterDirective ds room line directive at left)
-    go D.Unknown at left = tt
-    go (D.ByDots byte typed) at left = dots-line byte typed line at left
-    go D.ByAlias at left = alias-line line at left
-    go (D.IfGlyph wanted) at left = by-test FrontInRange (eqb room 0) (λ e. tt) (λ e. glyph-front ds wanted line at)
-    go (D.IfCell wanted) at left = by-test FrontInRange (eqb room 0) (λ e. tt) (λ e. cell-front ds wanted line at)
+    glyph-front : (ds : List Definition) (wanted : Bool) (at : ℕ) → FrontInRange room (glyphCondition ds wanted line at)
+    unfolding glyphCondition
+    glyph-front ds wanted at = each-value (FrontInRange room) faulty (λ refusal left. tt) false line at _ (λ c after h. condition-front after _)
 
-holds-in-range : (holds : Bool) (reading : Reading) → ReadingInRange reading → ReadingInRange (ifHolds holds reading)
-unfolding ifHolds
-holds-in-range holds reading h = by-test ReadingInRange holds (λ e. h) (λ e. without reading)
-  where
-    without : (r : Reading) → ReadingInRange (withoutEffect r)
-    without (Fault refusal left) = tt
-    without NoEffect = tt
-    without (Define d left) = tt
+    cell-front : (ds : List Definition) (wanted : Bool) (at : ℕ) → FrontInRange room (cellCondition ds wanted line at)
+    unfolding cellCondition
+    cell-front ds wanted at = each-dots (FrontInRange room) faulty (λ refusal left. tt) false line at _ (λ cell after l. condition-front after _)
 
-on-front : (front : Front) (more : Bool → ℕ → Reading) → FrontInRange front → ((holds : Bool) (rest : ℕ) → ReadingInRange (more holds rest))
-    → ReadingInRange (onFront front more)
-on-front (Whole reading) more h k = h
-on-front (Condition holds rest) more h k = k holds rest
+  front-in-range : (ds : List Definition) (line : List ℕ) → FrontInRange room (frontOf ds room line)
+  unfolding frontOf
+  front-in-range ds line =
+      let w = wordAt line 0 in
+      go (directiveOf (bytesOf line w)) (w .end) (length line - w .start)
+    where
+      some : eqb room 0 ≡ false → 0 < room
+      some e = let n = eqb-false room 0 e in omega arith
 
-from-in-range : (ds : List Definition) (room : ℕ) (line : List ℕ) → ReadingInRange (readFrom ds room line)
+      go : (directive : Directive) (at left : ℕ) → FrontInRange room (afterDirective ds room line directive at left)
+      go D.Unknown at left = tt
+      go (D.ByDots byte typed) at left = dots-line byte typed line at left
+      go D.ByAlias at left = alias-line line at left
+      go (D.IfGlyph wanted) at left = by-test (FrontInRange room) (eqb room 0) (λ e. tt) (λ e. glyph-front (some e) line ds wanted at)
+      go (D.IfCell wanted) at left = by-test (FrontInRange room) (eqb room 0) (λ e. tt) (λ e. cell-front (some e) line ds wanted at)
+
+  holds-in-range : (holds : Bool) (reading : Reading) → ReadingInRange room reading → ReadingInRange room (ifHolds holds reading)
+  unfolding ifHolds
+  holds-in-range holds reading h = by-test (ReadingInRange room) holds (λ e. h) (λ e. without reading h)
+    where
+      without : (r : Reading) → ReadingInRange room r → ReadingInRange room (withoutEffect r)
+      without (Fault refusal left) k = tt
+      without NoEffect k = tt
+      without (Define d left) k = tt
+      without (Block (Open first second)) k = k
+      without (Block Else) k = tt
+      without (Block EndIf) k = tt
+
+  on-front : (front : Front) (more : Bool → ℕ → Reading) → FrontInRange room front → ((holds : Bool) (rest : ℕ) → ReadingInRange room (more holds rest))
+      → ReadingInRange room (onFront front more)
+  on-front (Whole reading) more h k = h
+  on-front (Condition holds rest) more h k = k holds rest
+
+  -- what had room for a condition less
+  more-room : (reading : Reading) → ReadingInRange room reading → ReadingInRange (suc room) reading
+  more-room (Fault refusal left) h = tt
+  more-room NoEffect h = tt
+  more-room (Define d left) h = h
+  more-room (Block (Open first second)) h = omega arith
+  more-room (Block Else) h = tt
+  more-room (Block EndIf) h = tt
+
+from-in-range : (ds : List Definition) (room : ℕ) (line : List ℕ) → ReadingInRange room (readFrom ds room line)
 unfolding readFrom
-from-in-range ds zero line = on-front (frontOf ds zero line) (λ holds rest. NoEffect) (front-in-range ds zero line) (λ holds rest. tt)
+from-in-range ds zero line = on-front zero (frontOf ds zero line) (λ holds rest. NoEffect) (front-in-range zero ds line) (λ holds rest. tt)
 from-in-range ds (suc room) line =
-    on-front (frontOf ds (suc room) line) _ (front-in-range ds (suc room) line)
-    (λ holds rest. holds-in-range holds (readFrom ds room (drop rest line)) (from-in-range ds room (drop rest line)))
+    on-front (suc room) (frontOf ds (suc room) line) _ (front-in-range (suc room) ds line)
+    (λ holds rest.
+    let r : Reading = readFrom ds room (drop rest line) in
+    holds-in-range (suc room) holds r (more-room room r (from-in-range ds room (drop rest line))))
 
-read-in-range : (ds : List Definition) (line : List ℕ) → ReadingInRange (readLine ds line)
-unfolding readLine
-read-in-range ds line = go (openingOf line)
-  where
-    go : (o : Opening) → ReadingInRange (ifDirective o Fault NoEffect (readFrom ds conditionLimit line))
-    go (Op.Fault refusal left) = tt
-    go Op.Skip = tt
-    go Op.Directive = from-in-range ds conditionLimit line
+module _ (ds : List Definition) (around : Around) (line : List ℕ) where
+  block-in-range : (may : Bool) (read : BlockLine) (at left : ℕ) → RoomFor (around .room) read → ReadingInRange (around .room) (blockLine may read line at left)
+  unfolding blockLine
+  block-in-range may read at left h = by-test (ReadingInRange (around .room)) may (λ e. finished-in-range (around .room) line at (Block read) h) (λ e. tt)
 
--- the definition that a line gives is in range
-pub line-in-range : (ds : List Definition) (line : List ℕ) {d : Definition} {left : ℕ} → readLine ds line ≡ Define d left → InRange d
-line-in-range ds line e = rw e at (read-in-range ds line)
+  first-in-range : ReadingInRange (around .room) (readFirst ds around line)
+  unfolding readFirst
+  first-in-range =
+      let w = wordAt line 0 in
+      by-test (ReadingInRange (around .room)) (sameBytes (bytesOf line w) (ascii "else")) (λ e. block-in-range (around .turns) Else _ _ tt)
+      (λ e. by-test (ReadingInRange (around .room)) (sameBytes (bytesOf line w) (ascii "endIf")) (λ e. block-in-range (around .closes) EndIf _ _ tt)
+      (λ e. holds-in-range (around .room) (around .taken) (readFrom ds (around .room) line) (from-in-range ds (around .room) line)))
+
+  read-in-range : ReadingInRange (around .room) (readLine ds around line)
+  unfolding readLine
+  read-in-range = go (openingOf line)
+    where
+      go : (o : Opening) → ReadingInRange (around .room) (ifDirective o Fault NoEffect (readFirst ds around line))
+      go (Op.Fault refusal left) = tt
+      go Op.Skip = tt
+      go Op.Directive = first-in-range
+
+  -- the definition that a line gives is in range
+  pub line-in-range : {d : Definition} {left : ℕ} → readLine ds around line ≡ Define d left → InRange d
+  line-in-range e = rw e at read-in-range
+
+  -- a block that a line opens had room
+  pub line-had-room : {read : BlockLine} → readLine ds around line ≡ Block read → RoomFor (around .room) read
+  line-had-room e = rw e at read-in-range

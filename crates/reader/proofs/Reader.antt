@@ -1,22 +1,27 @@
 -- Each way through the reading of a line: what the calls answered, put into the definitions.
 use Prim.Native.Nat.{ℕ, zero, suc, _-_, _≤_, _<_}
 use mathlib.Core.Path.{_≡_, _∙_}
-use mathlib.Core.Bool.{Bool, false, Bool·beq}
+use mathlib.Core.Bool.{Bool, true, false, Bool·beq}
 use mathlib.Core.List.{List}
 use native.Mathlib.Numerals.{sub-one}
 use native.Mathlib.Omega.{arith}
 use lib.ListN.{length, take, drop, length-drop}
 use lib.Seq.{take-all}
+use Rattle.basics.specs.Ascii.{ascii}
 use Rattle.basics.specs.declared.Refusal.the-variants.{TrailingText}
-use Rattle.lines.specs.Words.{wordAt, bytesOf, isOver}
+use Rattle.lines.specs.Words.{wordAt, bytesOf, sameBytes, isOver}
 use Rattle.lines.specs.declared.Word.{Word}
+use Rattle.blocks.specs.Blocks.{inert}
+use Rattle.blocks.specs.declared.BlockLine.{BlockLine}
+use Rattle.blocks.specs.declared.BlockLine.the-variants.{Else, EndIf}
+use Rattle.blocks.specs.declared.Around.{Around}
 use Rattle.definitions.specs.declared.Meaning.{Meaning}
 use Rattle.definitions.specs.declared.Definition.{Definition}
-use Rattle.reader.specs.Reader.{directiveOf, finished, define, afterDirective, frontOf, ifHolds, readFrom}
+use Rattle.reader.specs.Reader.{directiveOf, finished, define, conditionAt, afterDirective, frontOf, withoutEffect, ifHolds, readFrom, blockLine, readFirst}
 use Rattle.reader.specs.Internal.{FrontWithin}
 use Rattle.reader.specs.declared.Directive.{Directive}
 use Rattle.reader.specs.declared.Reading.{Reading}
-use Rattle.reader.specs.declared.Reading.the-variants.{Fault}
+use Rattle.reader.specs.declared.Reading.the-variants.{Fault, Block}
 use Rattle.reader.specs.declared.Front.{Front}
 use Rattle.reader.specs.declared.Front.the-variants.{Whole, Condition}
 
@@ -33,8 +38,8 @@ finish-meaning line end c left e h = rw (← e) h
 -- ---- conditions
 
 -- t is what a call answered of the test
-pub condition-holds : (wanted : Bool) (after : ℕ) {t x : Bool} → t ≡ x → Condition (Bool·beq t wanted) after ≡ Condition (Bool·beq x wanted) after
-condition-holds wanted after e = rw e
+pub condition-holds : (line : List ℕ) (wanted : Bool) (after : ℕ) {t x : Bool} {f : Front} → t ≡ x → f ≡ conditionAt line after (Bool·beq t wanted) → f ≡ conditionAt line after (Bool·beq x wanted)
+condition-holds line wanted after e h = rw (← e) h
 
 -- a condition needs no more than that there is room
 pub front-room : (f : Front) (room n : ℕ) → FrontWithin f 1 n → (room ≡ 0 → ⊥) → FrontWithin f room n
@@ -60,9 +65,9 @@ module _ (f : Front) (holds : Bool) (rest room n : ℕ) (h : FrontWithin f room 
 pub at-directive : (ds : List Definition) (room : ℕ) (line : List ℕ) (at left : ℕ) {d k : Directive} {f : Front} → d ≡ k → f ≡ afterDirective ds room line k at left → f ≡ afterDirective ds room line d at left
 at-directive ds room line at left q h = rw q h
 
-pub front-read : (ds : List Definition) (room : ℕ) (line : List ℕ) (over : Bool) (w : Word) (d : Directive) (f : Front) → over ≡ isOver line 0 → over ≡ false → w ≡ wordAt line 0 → d ≡ directiveOf (bytesOf line w) → f ≡ afterDirective ds room line d (w .end) (length line - w .start) → f ≡ frontOf ds room line
+pub front-read : (ds : List Definition) (room : ℕ) (line : List ℕ) (w : Word) (d : Directive) (f : Front) → w ≡ wordAt line 0 → d ≡ directiveOf (bytesOf line w) → f ≡ afterDirective ds room line d (w .end) (length line - w .start) → f ≡ frontOf ds room line
 unfolding frontOf
-front-read ds room line over w d f e q g h z = rw (← e, q, ← g, ← h) z
+front-read ds room line w d f g h z = rw (← g, ← h) z
 
 pub read-whole : (ds : List Definition) (room : ℕ) (line : List ℕ) (f : Front) (reading : Reading) → f ≡ frontOf ds room line → f ≡ Whole reading → reading ≡ readFrom ds room line
 unfolding readFrom
@@ -77,3 +82,24 @@ pub read-further : (ds : List Definition) (room : ℕ) (line : List ℕ) (f : Fr
 unfolding readFrom
 read-further ds zero line f holds rest more r e q p g z = absurd (omega arith)
 read-further ds (suc room) line f holds rest more r e q p g z = z ∙ rw (← e, q, g, part-rest, sub-one)
+
+-- ---- the first word
+
+-- a block behind a failed condition
+pub inert-block : {reading : Reading} {read made : BlockLine} → reading ≡ Block read → made ≡ inert read → Block made ≡ withoutEffect reading
+inert-block q e = rw (q, e)
+
+-- w is the first word, a and b are what calls answered of it
+module _ (ds : List Definition) (around : Around) (line : List ℕ) (w : Word) (r : Reading) (a : Bool) (e : w ≡ wordAt line 0) (p : a ≡ sameBytes (bytesOf line w) (ascii "else")) where
+  pub first-else : a ≡ true → r ≡ blockLine (around .turns) Else line (w .end) (length line - w .start) → r ≡ readFirst ds around line
+  unfolding readFirst
+  first-else q z = rw (← e, ← p, q) z
+
+  module _ (b : Bool) (n : a ≡ false) (t : b ≡ sameBytes (bytesOf line w) (ascii "endIf")) where
+    pub first-end : b ≡ true → r ≡ blockLine (around .closes) EndIf line (w .end) (length line - w .start) → r ≡ readFirst ds around line
+    unfolding readFirst
+    first-end q z = rw (← e, ← p, n, ← t, q) z
+
+    pub first-other : (more : Reading) → b ≡ false → more ≡ readFrom ds (around .room) line → r ≡ ifHolds (around .taken) more → r ≡ readFirst ds around line
+    unfolding readFirst
+    first-other more q y z = rw (← e, ← p, n, ← t, q, ← y) z

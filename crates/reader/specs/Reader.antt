@@ -1,17 +1,21 @@
--- Reading a line: 3, 4, then faults 5 to 10 as met from left to right. The conditions are judged with the definitions of the lines before.
+-- Reading a line: 3, 4, then faults 5 to 10 and 17 as met from left to right. The conditions are judged with the definitions of the lines before.
 use Prim.Native.Nat.{ℕ, zero, suc, _-_}
-use mathlib.Core.Bool.{Bool, true, false, Bool·beq}
+use mathlib.Core.Bool.{Bool, true, false, not, Bool·beq}
 use mathlib.Core.List.{List}
 use lib.ListN.{length, drop}
 use lib.Dec.{eqb}
 use Rattle.basics.specs.Ascii.{ascii}
 use Rattle.basics.specs.Choice.{pick}
 use Rattle.basics.specs.declared.Refusal.{Refusal}
-use Rattle.basics.specs.declared.Refusal.the-variants.{UnknownDirective, MissingOperand, TrailingText, TooManyConditions}
+use Rattle.basics.specs.declared.Refusal.the-variants.{UnknownDirective, TrailingText, TooManyConditions, StrayBlockWord}
 use Rattle.lines.specs.declared.Word.{Word}
 use Rattle.lines.specs.Words.{wordAt, bytesOf, sameBytes, isOver}
 use Rattle.lines.specs.Texts.{openingOf, ifDirective}
 use Rattle.operands.specs.Operands.{characterAt, dotsOperandAt, ifValue, ifDotsValue}
+use Rattle.blocks.specs.Blocks.{inert}
+use Rattle.blocks.specs.declared.BlockLine.{BlockLine}
+use Rattle.blocks.specs.declared.BlockLine.the-variants.{Open, Else, EndIf}
+use Rattle.blocks.specs.declared.Around.{Around}
 use Rattle.definitions.specs.declared.Meaning.{Meaning}
 use Rattle.definitions.specs.declared.Meaning.the-variants as M
 use Rattle.definitions.specs.declared.Definition.{Definition}
@@ -19,7 +23,7 @@ use Rattle.reader.specs.Conditions.{hasGlyph, hasCell}
 use Rattle.reader.specs.declared.Directive.{Directive}
 use Rattle.reader.specs.declared.Directive.the-variants as D
 use Rattle.reader.specs.declared.Reading.{Reading}
-use Rattle.reader.specs.declared.Reading.the-variants.{Fault, NoEffect, Define}
+use Rattle.reader.specs.declared.Reading.the-variants.{Fault, NoEffect, Define, Block}
 use Rattle.reader.specs.declared.Front.{Front}
 use Rattle.reader.specs.declared.Front.the-variants.{Whole, Condition}
 
@@ -65,14 +69,19 @@ aliasLine line at left =
 abbrev pub faulty : Refusal → ℕ → Front
 faulty refusal left = Whole (Fault refusal left)
 
+-- behind a condition's operand: a further directive; where it is absent or begins with `#`, a block opens, its first half taken if
+-- the condition holds, its second if it fails
+unfoldable pub conditionAt : List ℕ → ℕ → Bool → Front
+conditionAt line after holds = pick (isOver line after) (Whole (Block (Open holds (not holds)))) (Condition holds after)
+
 -- a condition's operand: the condition holds where its test comes out as wanted
 unfoldable pub glyphCondition : List Definition → Bool → List ℕ → ℕ → Front
 glyphCondition ds wanted line at =
-    ifValue (characterAt false line at) faulty (λ c after. Condition (Bool·beq (hasGlyph ds c) wanted) after)
+    ifValue (characterAt false line at) faulty (λ c after. conditionAt line after (Bool·beq (hasGlyph ds c) wanted))
 
 unfoldable pub cellCondition : List Definition → Bool → List ℕ → ℕ → Front
 cellCondition ds wanted line at =
-    ifDotsValue (dotsOperandAt false line at) faulty (λ cell after. Condition (Bool·beq (hasCell ds cell) wanted) after)
+    ifDotsValue (dotsOperandAt false line at) faulty (λ cell after. conditionAt line after (Bool·beq (hasCell ds cell) wanted))
 
 -- where there is room for one, a condition; the one too many is at fault at its word
 abbrev pub ifRoom : ℕ → ℕ → Front → Front
@@ -86,18 +95,19 @@ afterDirective ds room line D.ByAlias at left = Whole (aliasLine line at left)
 afterDirective ds room line (D.IfGlyph wanted) at left = ifRoom room left (glyphCondition ds wanted line at)
 afterDirective ds room line (D.IfCell wanted) at left = ifRoom room left (cellCondition ds wanted line at)
 
--- the directive at the front, with room for so many conditions; where it is absent or begins with `#`, it is missing
+-- the directive at the front, with room for so many conditions
 unfoldable pub frontOf : List Definition → ℕ → List ℕ → Front
 frontOf ds room line =
     let w : Word = wordAt line 0 in
-    let front : Front = afterDirective ds room line (directiveOf (bytesOf line w)) (w .end) (length line - w .start) in
-    pick (isOver line 0) (faulty MissingOperand 0) front
+    afterDirective ds room line (directiveOf (bytesOf line w)) (w .end) (length line - w .start)
 
--- behind a failed condition only a fault counts: the whole line must be well formed
+-- behind a failed condition, or inside lines not taken: the whole line must be well formed, nothing is defined, and of a block that opens neither
+-- half is taken
 abbrev pub withoutEffect : Reading → Reading
 withoutEffect (Fault refusal left) = Fault refusal left
 withoutEffect NoEffect = NoEffect
 withoutEffect (Define definition left) = NoEffect
+withoutEffect (Block line) = Block (inert line)
 
 unfoldable pub ifHolds : Bool → Reading → Reading
 ifHolds holds reading = pick holds reading (withoutEffect reading)
@@ -113,10 +123,18 @@ readFrom ds zero line = onFront (frontOf ds zero line) (λ holds rest. NoEffect)
 readFrom ds (suc room) line =
     onFront (frontOf ds (suc room) line) (λ holds rest. ifHolds holds (readFrom ds room (drop rest line)))
 
--- a line holds at most 8 conditions
-abbrev pub conditionLimit : ℕ
-conditionLimit = 8
+-- `else` or `endIf`, at fault at its word where it may not stand
+unfoldable pub blockLine : Bool → BlockLine → List ℕ → ℕ → ℕ → Reading
+blockLine may read line at left = pick may (finished line at (Block read)) (Fault StrayBlockWord left)
+
+-- `else` and `endIf` stand first on their line; any other directive has its effect where the line is taken
+unfoldable pub readFirst : List Definition → Around → List ℕ → Reading
+readFirst ds around line =
+    let w : Word = wordAt line 0 in
+    pick (sameBytes (bytesOf line w) (ascii "else")) (blockLine (around .turns) Else line (w .end) (length line - w .start))
+    (pick (sameBytes (bytesOf line w) (ascii "endIf")) (blockLine (around .closes) EndIf line (w .end) (length line - w .start))
+    (ifHolds (around .taken) (readFrom ds (around .room) line)))
 
 -- a whole line, without its end
-unfoldable pub readLine : List Definition → List ℕ → Reading
-readLine ds line = ifDirective (openingOf line) Fault NoEffect (readFrom ds conditionLimit line)
+unfoldable pub readLine : List Definition → Around → List ℕ → Reading
+readLine ds around line = ifDirective (openingOf line) Fault NoEffect (readFirst ds around line)

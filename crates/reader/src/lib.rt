@@ -1,5 +1,7 @@
 // Reading a line of a text table: directives, conditions, operands. Words and a count stand for the definitions of the lines before.
 use basics::Refusal;
+use blocks::Around;
+use blocks::BlockLine;
 use definitions::Cell;
 use definitions::Definition;
 use definitions::Meaning;
@@ -13,11 +15,8 @@ ghost use lib.ListN.{length};
 ghost use Rattle.basics.specs.Choice.{pick};
 ghost use Rattle.table.specs.Words.{definitions};
 ghost use Rattle.reader.specs.Conditions.{hasGlyph, hasCell};
-ghost use Rattle.reader.specs.Reader.{conditionOf, directiveOf, finished, dotsLine, aliasLine, glyphCondition, cellCondition, afterDirective, frontOf, ifHolds, readFrom, readLine};
+ghost use Rattle.reader.specs.Reader.{conditionOf, directiveOf, finished, dotsLine, aliasLine, conditionAt, glyphCondition, cellCondition, afterDirective, frontOf, ifHolds, readFrom, blockLine, readFirst, readLine};
 ghost use Rattle.reader.specs.Internal.{FrontWithin};
-
-// How many conditions a line may hold.
-const CONDITION_LIMIT: usize = 8;
 
 // What a directive word asks for: a definition by dots, of a byte or a character, typed or shown only; an alias; or a
 // condition, which holds where its test comes out as wanted.
@@ -29,16 +28,17 @@ pub enum Directive {
     IfCell { wanted: bool },
 }
 
-// A line as read: at fault, without effect, or a definition that is to take effect. A place is the number of bytes from
-// the fault, or from the definition's directive word, to the line's end.
+// A line as read: at fault, without effect, a definition that is to take effect, or a line that opens, turns or closes a
+// block. A place is the number of bytes from the fault, or from the definition's directive word, to the line's end.
 pub enum Reading {
     Fault(Refusal, usize),
     NoEffect,
     Define(Definition, usize),
+    Block(BlockLine),
 }
 
 // A directive at the front of what is left of a line: read whole, or a condition, whether it holds and where the further
-// directive may begin.
+// directive begins.
 pub enum Front {
     Whole(Reading),
     Condition { holds: bool, rest: usize },
@@ -184,6 +184,21 @@ fn alias_line(line: &[u8], at: usize, left: usize) -> Reading
     }
 }
 
+// Behind a condition's operand: a further directive, or a block opens.
+fn condition_at(line: &[u8], after: usize, holds: bool) -> Front
+    requires { ⌜ after ≤ length (now line) ⌝ }
+    ensures { λ r. ⌜ r ≡ conditionAt (now (line .entry)) after holds ⌝ }
+    ensures { λ r. ⌜ FrontWithin r 1 (length (now (line .entry))) ⌝ }
+{
+    if lines::is_over(line, after) {
+        return Front::Whole(Reading::Block(BlockLine::Open {
+            first: holds,
+            second: !holds,
+        }));
+    }
+    Front::Condition { holds, rest: after }
+}
+
 // `ifGlyph` and `ifNotGlyph` from behind the directive word on.
 fn glyph_condition(words: &[u32], count: usize, line: &[u8], at: usize, wanted: bool) -> Front
     requires { ⌜ (2 * count ≤ length (now words)) × (at ≤ length (now line)) ⌝ }
@@ -194,7 +209,7 @@ fn glyph_condition(words: &[u32], count: usize, line: &[u8], at: usize, wanted: 
         Operand::Fault(refusal, place) => Front::Whole(Reading::Fault(refusal, place)),
         Operand::Value(c, after) => {
             let holds = has_glyph(words, count, c) == wanted;
-            Front::Condition { holds, rest: after }
+            condition_at(line, after, holds)
         }
     }
 }
@@ -209,7 +224,7 @@ fn cell_condition(words: &[u32], count: usize, line: &[u8], at: usize, wanted: b
         DotsOperand::Fault(refusal, place) => Front::Whole(Reading::Fault(refusal, place)),
         DotsOperand::Value(cell, after) => {
             let holds = has_cell(words, count, cell) == wanted;
-            Front::Condition { holds, rest: after }
+            condition_at(line, after, holds)
         }
     }
 }
@@ -253,9 +268,6 @@ fn front_of(words: &[u32], count: usize, line: &[u8], room: usize) -> Front
     ensures { λ r. ⌜ r ≡ frontOf (definitions count (now (words .entry))) room (now (line .entry)) ⌝ }
     ensures { λ r. ⌜ FrontWithin r room (length (now (line .entry))) ⌝ }
 {
-    if lines::is_over(line, 0) {
-        return Front::Whole(Reading::Fault(Refusal::MissingOperand, 0));
-    }
     let w = lines::next_word(line, 0);
     let start = w.start;
     let end = w.end;
@@ -263,7 +275,7 @@ fn front_of(words: &[u32], count: usize, line: &[u8], room: usize) -> Front
     after_directive(words, count, line, room, directive, end, line.len() - start)
 }
 
-// Behind a failed condition only a fault counts.
+// Behind a failed condition, or inside lines not taken, only a fault counts, and a block that opens.
 fn if_holds(holds: bool, reading: Reading) -> Reading
     ensures { λ r. ⌜ r ≡ ifHolds holds reading ⌝ }
 {
@@ -274,6 +286,7 @@ fn if_holds(holds: bool, reading: Reading) -> Reading
         Reading::Fault(refusal, place) => Reading::Fault(refusal, place),
         Reading::NoEffect => Reading::NoEffect,
         Reading::Define(_, _) => Reading::NoEffect,
+        Reading::Block(line) => Reading::Block(blocks::inert_line(line)),
     }
 }
 
@@ -291,14 +304,48 @@ fn read_from(words: &[u32], count: usize, line: &[u8], room: usize) -> Reading
     }
 }
 
-// A whole line, without its end.
-pub fn read_line(words: &[u32], count: usize, line: &[u8]) -> Reading
+// `else` or `endIf` from behind its word on, which begins `left` bytes before the line's end.
+fn block_line(line: &[u8], at: usize, left: usize, may: bool, read: BlockLine) -> Reading
+    requires { ⌜ at ≤ length (now line) ⌝ }
+    ensures { λ r. ⌜ r ≡ blockLine may read (now (line .entry)) at left ⌝ }
+{
+    if may {
+        return finish(line, at, Reading::Block(read));
+    }
+    Reading::Fault(Refusal::StrayBlockWord, left)
+}
+
+// A line that is no comment.
+fn read_first(words: &[u32], count: usize, around: Around, line: &[u8]) -> Reading
     requires { ⌜ 2 * count ≤ length (now words) ⌝ }
-    ensures { λ r. ⌜ r ≡ readLine (definitions count (now (words .entry))) (now (line .entry)) ⌝ }
+    ensures { λ r. ⌜ r ≡ readFirst (definitions count (now (words .entry))) around (now (line .entry)) ⌝ }
+{
+    let w = lines::next_word(line, 0);
+    let start = w.start;
+    let end = w.end;
+    if lines::same_bytes(&line[start..end], b"else") {
+        return block_line(line, end, line.len() - start, around.turns, BlockLine::Else);
+    }
+    if lines::same_bytes(&line[start..end], b"endIf") {
+        return block_line(
+            line,
+            end,
+            line.len() - start,
+            around.closes,
+            BlockLine::EndIf,
+        );
+    }
+    if_holds(around.taken, read_from(words, count, line, around.room))
+}
+
+// A whole line, without its end.
+pub fn read_line(words: &[u32], count: usize, around: Around, line: &[u8]) -> Reading
+    requires { ⌜ 2 * count ≤ length (now words) ⌝ }
+    ensures { λ r. ⌜ r ≡ readLine (definitions count (now (words .entry))) around (now (line .entry)) ⌝ }
 {
     match lines::open_line(line) {
         Opening::Fault(refusal, left) => Reading::Fault(refusal, left),
         Opening::Skip => Reading::NoEffect,
-        Opening::Directive => read_from(words, count, line, CONDITION_LIMIT),
+        Opening::Directive => read_first(words, count, around, line),
     }
 }

@@ -6,12 +6,12 @@ use Rattle.compiler.proofs.Call.{Come, come-first, come-on, come-refuse
 use Rattle.compiler.proofs.read_lines.Statement.{statement}
 use Rattle.compiler.proofs.read_lines.Tie as tie
 
--- what the text still gives from the definitions of the words, which are a table so far
+-- what the text still gives from the words and the state, which are ready
 abbrev Inv-loop : tie.InvT-loop
-Inv-loop words₀ text count₀ line₀ at₀ words count line at = Come text words₀ words count at line
+Inv-loop words₀ text state₀ at₀ words state at = Come text words₀ words state at
 
 abbrev μ-loop : tie.MeasureT-loop
-μ-loop words₀ text count₀ line₀ at₀ words count line at = length text + 1 - at
+μ-loop words₀ text state₀ at₀ words state at = length text + 1 - at
 
 pub read-lines-spec : {M : Type 1} → statement M
 read-lines-spec =
@@ -19,6 +19,7 @@ read-lines-spec =
     (tie.spec
     Inv-loop
     μ-loop
+    (λ c κs. search needs)
     (λ c. search come-first)
     (λ c κs. search needs)
     (λ c. search needs)
@@ -28,11 +29,12 @@ read-lines-spec =
     (λ c. search needs)
     (λ c κs. search needs)
     (λ c. search needs)
-    (λ c. search come-refused)
     (λ c. search needs)
+    (λ c. search come-refused)
     (λ c. search needs)
     (λ c. search needs)
     (λ c. omega arith)
     (λ c. search come-on)
+    (λ c κs. search needs)
     (λ c. search needs)
     (λ c. search come-end))

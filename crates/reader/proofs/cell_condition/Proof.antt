@@ -14,5 +14,6 @@ cell-condition-spec =
     (λ c. search needs)
     (λ c. search needs)
     (λ c κs. search needs)
+    (λ c κs. search dots-within)
     (λ c. (search on-dots-value, tt))
-    (λ c. (search (on-dots-value, condition-holds), (search needs, search dots-within))))
+    (λ c. (search (on-dots-value, condition-holds), search needs)))

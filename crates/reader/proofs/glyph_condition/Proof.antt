@@ -14,5 +14,6 @@ glyph-condition-spec =
     (λ c. search needs)
     (λ c. search needs)
     (λ c κs. search needs)
+    (λ c κs. search value-within)
     (λ c. (search on-value, tt))
-    (λ c. (search (on-value, condition-holds), (search needs, search value-within))))
+    (λ c. (search (on-value, condition-holds), search needs)))
