@@ -1,5 +1,5 @@
 -- What takes effect at a line: it is what the line gives, in range, and admitted, and a block had room; and what it leaves of the words and the state.
-use Prim.Native.Nat.{ℕ, _+_, _-_, _*_, _≤_, _<_}
+use Prim.Native.Nat.{ℕ, _+_, _-_, _*_, _<_}
 use mathlib.Core.Path.{_≡_, refl, sym, _∙_}
 use mathlib.Core.List.{List}
 use native.Mathlib.Omega.{arith}
@@ -7,7 +7,7 @@ use lib.ListN.{length, take}
 use Rattle.basics.specs.declared.Refusal.{Refusal}
 use Rattle.lines.specs.Lines.{withoutCR}
 use Rattle.lines.specs.Texts.{next}
-use Rattle.lines.specs.declared.Stopped.the-variants.{No, By}
+use Rattle.lines.specs.declared.Stopped.the-variants.{By}
 use Rattle.blocks.specs.Blocks.{depthLimit, aroundOf}
 use Rattle.blocks.specs.Internal.{blocksOf, RoomFor, Changed}
 use Rattle.blocks.specs.declared.OpenBlock.{OpenBlock}
@@ -21,7 +21,6 @@ use Rattle.definitions.specs.declared.Verdict.the-variants as Judged
 use Rattle.definitions.specs.Effects.{definitionLimit, verdictOf}
 use Rattle.definitions.proofs.Admission.{admissible}
 use Rattle.table.specs.Words.{kindUnit, wordOf, definitions}
-use Rattle.table.specs.Internal.{Written}
 use Rattle.table.proofs.Readback.{InRange}
 use Rattle.table.proofs.Written.{written-length, stored, store-fits, stored-more, stored-written, stored-beyond}
 use Rattle.reader.specs.Reader.{readLine}
@@ -29,7 +28,7 @@ use Rattle.reader.specs.declared.Reading.{Reading}
 use Rattle.reader.specs.declared.Reading.the-variants.{Fault, NoEffect, Define, Block}
 use Rattle.reader.proofs.InRange.{line-in-range, line-had-room}
 use Rattle.compiler.specs.Compile.{judged, effectOf, lineEffect, SoFar, withEffect, step}
-use Rattle.compiler.specs.Internal.{standing, Ready, goneOn, Leaves}
+use Rattle.compiler.specs.Internal.{Ready, goneOn, Leaves}
 use Rattle.compiler.specs.declared.State.{State}
 use Rattle.compiler.specs.declared.Stepped.{Stepped}
 

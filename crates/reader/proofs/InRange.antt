@@ -26,11 +26,10 @@ use Rattle.blocks.specs.Internal.{RoomFor}
 use Rattle.blocks.specs.declared.BlockLine.{BlockLine}
 use Rattle.blocks.specs.declared.BlockLine.the-variants.{Open, Else, EndIf}
 use Rattle.blocks.specs.declared.Around.{Around}
-use Rattle.definitions.specs.declared.Meaning.{Meaning}
 use Rattle.definitions.specs.declared.Meaning.the-variants as M
 use Rattle.definitions.specs.declared.Definition.{Definition}
 use Rattle.table.proofs.Readback.{InRange, isNumberInRange}
-use Rattle.reader.specs.Reader.{directiveOf, finished, define, dotsLine, aliasLine, conditionAt, glyphCondition, cellCondition, faulty, afterDirective, frontOf, withoutEffect, ifHolds, onFront, readFrom, blockLine, readFirst, readLine}
+use Rattle.reader.specs.Reader.{directiveOf, finished, dotsLine, aliasLine, conditionAt, glyphCondition, cellCondition, faulty, afterDirective, frontOf, withoutEffect, ifHolds, onFront, readFrom, blockLine, readFirst, readLine}
 use Rattle.reader.specs.declared.Directive.{Directive}
 use Rattle.reader.specs.declared.Directive.the-variants as D
 use Rattle.reader.specs.declared.Reading.{Reading}
