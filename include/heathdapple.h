@@ -3,7 +3,7 @@
  * Link with libheathdapple.a (x86-64 Linux). Each pointer is valid for its length, in elements; buffers that are written
  * lie apart from each other and from what is read. A length may be 0, with any non-null pointer.
  *
- * A refusal is number * 2^32 + place, with the numbers 1 to 16 of the papers; a place beyond 2^32 - 1 is given as 2^32 - 1.
+ * A refusal is number * 2^32 + place, with the numbers 1 to 18 of the papers; a place beyond 2^32 - 1 is given as 2^32 - 1.
  * Every other answer is below 2^32.
  */
 #ifndef HEATHDAPPLE_H
