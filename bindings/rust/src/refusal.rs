@@ -9,7 +9,7 @@ use std::fmt;
 /// ```
 #[derive(Clone, Copy, Debug, PartialEq, Eq)]
 pub struct Refusal {
-    /// 1 to 16; 0 for an answer that the call never gives.
+    /// 1 to 18; 0 for an answer that the call never gives.
     pub number: u32,
     /// A line from 1, or a pair of words or a character's index from 0; 2^32 - 1 also for a greater one.
     pub place: u32,
@@ -25,17 +25,19 @@ impl Refusal {
             3 => "line over 1,024 bytes",
             4 => "line not UTF-8",
             5 => "unknown directive word",
-            6 => "operand or further directive missing",
+            6 => "operand missing",
             7 => "bad character or byte operand",
             8 => "bad dots, cell or dot number",
             9 => "text after the last operand",
-            10 => "ninth condition on a line",
+            10 => "open blocks and conditions of a line together over 8",
             11 => "character or dot already defined",
             12 => "alias loop",
             13 => "a definition beyond 1,024",
             14 => "character to look up is no scalar",
             15 => "not a compiled table",
             16 => "bad attribute state",
+            17 => "`else` or `endIf` with no block open, or a second `else`",
+            18 => "block open at the end of the text",
             _ => "refused for a reason unknown here",
         }
     }
@@ -46,7 +48,7 @@ impl fmt::Display for Refusal {
         let place = match self.number {
             0 => "answer",
             1 | 2 => "",
-            3..=13 | 16 => "line",
+            3..=13 | 16..=18 => "line",
             14 => "character",
             15 => "pair",
             _ => "place",
@@ -72,7 +74,9 @@ mod tests {
             (12, 3, "line 3: alias loop (refusal 12)"),
             (14, 7, "character 7: character to look up is no scalar (refusal 14)"),
             (16, 1, "line 1: bad attribute state (refusal 16)"),
-            (17, 4, "place 4: refused for a reason unknown here (refusal 17)"),
+            (17, 4, "line 4: `else` or `endIf` with no block open, or a second `else` (refusal 17)"),
+            (18, 2, "line 2: block open at the end of the text (refusal 18)"),
+            (19, 4, "place 4: refused for a reason unknown here (refusal 19)"),
             (u32::MAX, 0, "place 0: refused for a reason unknown here (refusal 4294967295)"),
         ] {
             assert_eq!(Refusal { number, place }.to_string(), message);

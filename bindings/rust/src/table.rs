@@ -72,5 +72,7 @@ mod tests {
     #[test]
     fn refused() {
         assert_eq!(Table::compile(b"\nalias a a\n"), Err(Refusal { number: 12, place: 2 }));
+        assert_eq!(Table::compile(b"ifGlyph a\nendIf\nendIf\n"), Err(Refusal { number: 17, place: 3 }));
+        assert_eq!(Table::compile(b"\nifGlyph a\nelse\n"), Err(Refusal { number: 18, place: 2 }));
     }
 }
