@@ -1,7 +1,9 @@
-//! Texts, tables and characters at random: made by the grammar of document 01, then damaged in part.
+//! Texts, tables and characters at random: made by the grammar of the papers, then damaged in part.
 
 use crate::random::Random;
-use crate::reference::{self, Condition, Meanings, Pairs, Place, LINE_BYTES, PAIRS, TEXT_BYTES, WORDS};
+use crate::reference::{
+    self, Block, Condition, Meanings, Pairs, Place, Reading, CONDITIONS, LINE_BYTES, PAIRS, TEXT_BYTES, WORDS,
+};
 
 /// Characters that the rules know: bases, characters with a base, stand-ins and characters with one.
 const KNOWN: [u32; 40] = [
@@ -59,22 +61,39 @@ fn pool_character(random: &mut Random) -> u32 {
 pub struct Text {
     pub bytes: Vec<u8>,
     pub alphabet: Vec<u32>,
+    /// The most blocks that were open at once, before any damage.
+    pub depth: usize,
 }
 
 /// Makes the lines of one text.
 struct Maker<'r> {
     random: &'r mut Random,
+    bytes: Vec<u8>,
     alphabet: Vec<u32>,
     cells: Vec<u8>,
     aliases: usize,
+    /// How deep the blocks may nest; 0 for a text without any.
+    most_blocks: usize,
+    /// The most blocks that were open at once.
+    depth: usize,
+    /// The characters of opening lines, which the lines inside ask for and define more often.
+    asked: Vec<u32>,
     /// The table of the lines so far.
     words: Vec<u32>,
-    definitions: usize,
+    reading: Reading,
 }
 
 const UNKNOWN: [&str; 18] = [
     "Char", "CHAR", "chars", "cha", "ifglyph", "ifNotglyph", "IfCell", "ifCells", "if", "include", "dot",
     "\u{FEFF}char", "char\u{A0}a", "\r", "a", "1", "\\#", "char#",
+];
+
+/// The words that stand first on their line, and what is not quite one of them.
+const FIRST: [&str; 2] = ["else", "endIf"];
+
+const NOT_FIRST: [&str; 14] = [
+    "Else", "ELSE", "els", "elseIf", "else#", "else\r", "\u{FEFF}else", "endif", "EndIf", "end", "endIfs", "endIf#",
+    "endIf\r", "endIf\u{A0}",
 ];
 
 const BAD_CHARACTERS: [&str; 34] = [
@@ -93,7 +112,7 @@ const BAD_DOTS: [&str; 35] = [
 
 const BAD_CELLS: [&str; 12] = ["9", "11", "00", "01", "10", "(1)", "()", "(", "a", "#", "#1", "1#"];
 
-const AFTER: [&str; 8] = ["x", "1", "\\#", "x #", "\u{A0}", "\r #", "(1)", "char"];
+const AFTER: [&str; 11] = ["x", "1", "\\#", "x #", "\u{A0}", "\r #", "(1)", "char", "else", "endIf", "ifGlyph b"];
 
 fn add_character(bytes: &mut Vec<u8>, character: u32) {
     let character = char::from_u32(character).expect("a scalar");
@@ -110,7 +129,33 @@ impl Maker<'_> {
         let alphabet = (0..size).map(|_| pool_character(random)).collect();
         let cells = (0..random.between(1, 5)).map(|_| random.byte()).collect();
         let aliases = *random.pick(&[10, 35, 35, 35, 80]);
-        Maker { random, alphabet, cells, aliases, words: vec![0; WORDS], definitions: 0 }
+        let most_blocks = match random.below(20) {
+            0..=7 => 0,
+            8..=13 => random.between(1, 2),
+            14..=16 => random.between(3, 7),
+            _ => CONDITIONS,
+        };
+        Maker {
+            random,
+            bytes: Vec::new(),
+            alphabet,
+            cells,
+            aliases,
+            most_blocks,
+            depth: 0,
+            asked: Vec::new(),
+            words: vec![0; WORDS],
+            reading: Reading::default(),
+        }
+    }
+
+    fn open(&self) -> usize {
+        self.reading.blocks.len()
+    }
+
+    /// How many conditions a line may have.
+    fn room(&self) -> usize {
+        CONDITIONS - self.open()
     }
 
     fn blanks(&mut self, bytes: &mut Vec<u8>) {
@@ -167,6 +212,7 @@ impl Maker<'_> {
         match self.random.below(25) {
             0 => any_scalar(self.random),
             1 => 0xF000 + self.random.pick(&self.alphabet) % 256,
+            2..=8 if self.open() > 0 && !self.asked.is_empty() => *self.random.pick(&self.asked),
             _ => *self.random.pick(&self.alphabet),
         }
     }
@@ -227,16 +273,21 @@ impl Maker<'_> {
 
     /// Whether a condition holds with the lines so far.
     fn holds(&self, condition: Condition) -> bool {
-        Pairs(&self.words[..2 * self.definitions]).holds(condition)
+        Pairs(&self.words[..2 * self.reading.count]).holds(condition)
     }
 
     /// A condition, which holds more often than not.
     fn condition(&mut self, bytes: &mut Vec<u8>) {
-        let wish = self.random.percent(70);
+        let character = self.draw();
+        self.condition_on(bytes, character, 70);
+    }
+
+    /// A condition on the character or on a cell, made to hold `wished` times in a hundred and else left to chance.
+    fn condition_on(&mut self, bytes: &mut Vec<u8>, character: u32, wished: usize) {
+        let wish = self.random.percent(wished);
         let mut plain = self.random.percent(50);
         let mut operand = Vec::new();
         let words = if self.random.percent(50) {
-            let character = self.draw();
             if wish {
                 plain = self.holds(Condition::Glyph(character, true));
             }
@@ -311,16 +362,53 @@ impl Maker<'_> {
         }
     }
 
-    fn conditions(&mut self, bytes: &mut Vec<u8>, most: usize) {
+    /// The conditions before a directive, as many as fit.
+    fn conditions(&mut self, bytes: &mut Vec<u8>) {
         let count = match self.random.below(100) {
             0..=59 => 0,
             60..=81 => 1,
             82..=91 => 2,
-            _ => self.random.between(3, most),
+            _ => self.random.between(3, 8),
         };
-        for _ in 0..count {
+        for _ in 0..count.min(self.room()) {
             self.condition(bytes);
         }
+    }
+
+    /// The conditions that open a block, at least one and at most `most`.
+    fn opening(&mut self, bytes: &mut Vec<u8>, most: usize) {
+        let count = match self.random.below(10) {
+            0..=5 => 1,
+            6..=8 => 2,
+            _ => self.random.between(1, 8),
+        };
+        // Of deep blocks each fails seldom, so that the innermost are taken too.
+        let wished = if self.most_blocks > 2 { 85 } else { 40 };
+        for _ in 0..count.min(most).max(1) {
+            let character = self.draw();
+            self.asked.push(character);
+            self.condition_on(bytes, character, wished);
+        }
+        if self.random.percent(70) {
+            while matches!(bytes.last(), Some(b' ' | b'\t')) {
+                bytes.pop();
+            }
+        }
+        self.trail(bytes);
+    }
+
+    /// Opens or closes a block, or turns to the half behind `else`.
+    fn block_line(&mut self, bytes: &mut Vec<u8>) {
+        let open = self.open();
+        let turns = self.reading.blocks.last().is_some_and(Block::awaits_else);
+        let climbs = if self.most_blocks > 2 { 80 } else { 50 };
+        if open == 0 || open < self.most_blocks && self.random.percent(climbs) {
+            let room = self.room();
+            return self.opening(bytes, room);
+        }
+        let word = FIRST[usize::from(!turns || self.random.percent(45))];
+        bytes.extend(word.as_bytes());
+        self.trail(bytes);
     }
 
     /// A well-formed line without its end.
@@ -333,8 +421,9 @@ impl Maker<'_> {
             0 => {}
             1 => self.blanks(&mut bytes),
             2 | 3 => self.comment(&mut bytes),
+            4..=15 if self.most_blocks > 0 => self.block_line(&mut bytes),
             _ => {
-                self.conditions(&mut bytes, 8);
+                self.conditions(&mut bytes);
                 self.definition(&mut bytes);
                 self.trail(&mut bytes);
             }
@@ -362,7 +451,7 @@ impl Maker<'_> {
     /// A line with one fault of the grammar, behind conditions that may hold or fail.
     fn faulty_line(&mut self) -> Vec<u8> {
         let mut bytes = Vec::new();
-        self.conditions(&mut bytes, 8);
+        self.conditions(&mut bytes);
         let word = *self.random.pick(&["char", "glyph", "byte"]);
         match self.random.below(12) {
             0 => {
@@ -436,7 +525,7 @@ impl Maker<'_> {
             }
             10 => {
                 bytes.clear();
-                for _ in 0..self.random.between(8, 10) {
+                for _ in 0..self.room() + self.random.below(3) {
                     self.condition(&mut bytes);
                 }
                 match self.random.below(4) {
@@ -455,6 +544,108 @@ impl Maker<'_> {
             }
         }
         bytes
+    }
+
+    /// Adds a line to the text; one that would be refused may be left out.
+    fn add(&mut self, line: &[u8], only_accepted: bool) {
+        let taken = reference::take_line(line, &mut self.words, &mut self.reading);
+        if taken.is_ok() || !only_accepted {
+            self.bytes.extend(line);
+            end_line(self.random, &mut self.bytes);
+        }
+        self.depth = self.depth.max(self.open());
+    }
+
+    fn add_lines(&mut self, count: usize, only_accepted: bool) {
+        for _ in 0..count {
+            let line = self.line();
+            self.add(&line, only_accepted);
+        }
+    }
+
+    /// `else` or `endIf`, with what may follow it.
+    fn add_word(&mut self, word: &str) {
+        let mut line = word.as_bytes().to_vec();
+        self.trail(&mut line);
+        self.add(&line, true);
+    }
+
+    /// Closes the open blocks but `left`, at times by way of a half behind `else`.
+    fn close(&mut self, left: usize) {
+        while self.open() > left {
+            let open = self.open();
+            if self.random.percent(30) && self.reading.blocks.last().is_some_and(Block::awaits_else) {
+                self.add_word("else");
+                let count = self.random.below(3);
+                self.add_lines(count, true);
+            }
+            if self.open() >= open {
+                self.add_word("endIf");
+            }
+        }
+    }
+
+    /// Lines that end in a fault of blocks.
+    fn add_faulty_blocks(&mut self) {
+        let word = *self.random.pick(&FIRST);
+        let mut line = Vec::new();
+        match self.random.below(8) {
+            0 => {
+                // Nothing is open.
+                self.close(0);
+                line.extend(word.as_bytes());
+            }
+            1 | 2 => {
+                // A second `else`, also after an inner block.
+                if self.open() == 0 {
+                    self.opening(&mut line, 1);
+                    self.add(&line, true);
+                    line.clear();
+                }
+                if self.reading.blocks.last().is_some_and(Block::awaits_else) {
+                    self.add_word("else");
+                }
+                let count = self.random.below(3);
+                self.add_lines(count, true);
+                line.extend(b"else");
+            }
+            3 => {
+                // Behind conditions.
+                for _ in 0..self.random.between(1, 3).min(self.room()) {
+                    self.condition(&mut line);
+                }
+                line.extend(word.as_bytes());
+            }
+            4 => line.extend(self.random.pick(&NOT_FIRST).as_bytes()),
+            5 => {
+                // Text behind them, whatever is open.
+                line.extend(word.as_bytes());
+                self.blanks(&mut line);
+                line.extend(self.random.pick(&AFTER).as_bytes());
+            }
+            _ => {
+                // As many blocks as may be open, then a condition more.
+                while self.room() > 0 {
+                    let mut opening = Vec::new();
+                    let room = self.room();
+                    self.opening(&mut opening, room);
+                    self.add(&opening, true);
+                    if self.random.percent(20) {
+                        self.add_lines(1, true);
+                    }
+                }
+                self.opening(&mut line, 2);
+                if self.random.percent(40) {
+                    self.blanks(&mut line);
+                    self.definition(&mut line);
+                }
+            }
+        }
+        if self.random.percent(30) {
+            self.blanks(&mut line);
+            line.extend(self.random.pick(&AFTER).as_bytes());
+        }
+        self.add(&line, false);
     }
 }
 
@@ -485,7 +676,7 @@ pub fn damage(random: &mut Random, bytes: &mut Vec<u8>) {
     for _ in 0..*random.pick(&[1, 1, 1, 2, 3, 6]) {
         let place = random.below(bytes.len() + 1);
         let inside = place.min(bytes.len().saturating_sub(1));
-        match random.below(9) {
+        match random.below(11) {
             0 if !bytes.is_empty() => bytes[inside] ^= 1 << random.below(8),
             1 if !bytes.is_empty() => bytes[inside] = *random.pick(LOADED),
             2 => bytes.insert(place, *random.pick(LOADED)),
@@ -503,6 +694,20 @@ pub fn damage(random: &mut Random, bytes: &mut Vec<u8>) {
             }
             7 => {
                 bytes.splice(place..place, random.pick(&NOT_UTF8).iter().copied());
+            }
+            8 | 9 if !bytes.is_empty() => {
+                // A line left out, said twice, or said again elsewhere.
+                let mut lines: Vec<&[u8]> = bytes.split_inclusive(|byte| *byte == b'\n').collect();
+                let from = random.below(lines.len());
+                let line = lines[from];
+                match random.below(3) {
+                    0 => {
+                        lines.remove(from);
+                    }
+                    1 => lines.insert(from, line),
+                    _ => lines.insert(random.below(lines.len() + 1), line),
+                }
+                *bytes = lines.concat();
             }
             _ => {
                 // A part moved or said twice.
@@ -526,31 +731,26 @@ pub fn text(random: &mut Random) -> Text {
     };
     // All but a few texts leave out the lines that would be refused as repeats or loops.
     let only_accepted = !(56..=67).contains(&mode);
-    let mut bytes = Vec::new();
-    for _ in 0..count {
-        let line = maker.line();
-        match reference::take_line(&line, &mut maker.words, maker.definitions) {
-            Ok(grown) => maker.definitions = grown,
-            Err(_) if only_accepted => continue,
-            Err(_) => {}
-        }
-        bytes.extend(line);
-        end_line(maker.random, &mut bytes);
-    }
+    maker.add_lines(count + 3 * maker.most_blocks, only_accepted);
     if (68..=85).contains(&mode) {
-        bytes.extend(maker.faulty_line());
-        end_line(maker.random, &mut bytes);
-        for _ in 0..maker.random.below(3) {
-            bytes.extend(maker.line());
-            end_line(maker.random, &mut bytes);
+        if maker.most_blocks > 0 && maker.random.percent(40) {
+            maker.add_faulty_blocks();
+        } else {
+            let line = maker.faulty_line();
+            maker.add(&line, false);
         }
+        let count = maker.random.below(3);
+        maker.add_lines(count, false);
     }
-    let alphabet = std::mem::take(&mut maker.alphabet);
+    let open = maker.open();
+    let left = if maker.random.percent(5) { maker.random.below(open + 1) } else { 0 };
+    maker.close(left);
+    let Maker { mut bytes, alphabet, depth, .. } = maker;
     if mode > 85 {
         damage(random, &mut bytes);
     }
     end_text(random, &mut bytes);
-    Text { bytes, alphabet }
+    Text { bytes, alphabet, depth }
 }
 
 /// Fills a text with comments and blank lines up to `length`, within its lines' limit.
@@ -596,6 +796,10 @@ pub fn large_text(random: &mut Random) -> Text {
     };
     let mut bytes = Vec::new();
     let mut alphabet = Vec::new();
+    let inside = random.percent(30);
+    if inside {
+        bytes.extend(b"ifNotCell 8\n");
+    }
     for k in 0..count as u32 {
         let character = first + step * k;
         alphabet.push(character);
@@ -612,15 +816,22 @@ pub fn large_text(random: &mut Random) -> Text {
         };
         bytes.extend(line.as_bytes());
     }
-    let last: &[u8] = match random.below(6) {
+    let last: &[u8] = match random.below(10) {
         0 => b"ifCell 8 char \\uF8FF 1",
         1 => b"ifNotCell 8 char \\uF8FF 1",
         2 => b"alias a a",
-        3 => b"ifGlyph a alias a a\n",
+        3 => b"ifGlyph a alias a a",
+        4 => b"ifCell 8\nchar \\uF8FF 1\nendIf",
+        5 => b"ifCell 8\nelse\nchar \\uF8FF 1\nendIf",
+        6 => b"ifNotCell 8\nelse\nchar \\uF8FF 1\nalias a a\nendIf",
         _ => b"",
     };
     bytes.extend(last);
-    Text { bytes, alphabet }
+    if inside {
+        bytes.extend(b"\nelse\nchar \\uF8FE 1\nendIf\n");
+    }
+    let depth = usize::from(inside) + usize::from(last.ends_with(b"endIf"));
+    Text { bytes, alphabet, depth }
 }
 
 fn chain(links: usize) -> (Vec<u32>, Vec<String>) {
@@ -643,14 +854,18 @@ pub fn chain_text(random: &mut Random, links: usize) -> Text {
     }
     let mut text = lines.concat();
     let end = alphabet[links];
-    text += "ifGlyph \\u0400 char a 1\n";
+    let in_block = random.percent(50);
+    text += if in_block { "ifGlyph \\u0400\nchar a 1\nelse\nchar c 1\n" } else { "ifGlyph \\u0400 char a 1\n" };
     match random.below(4) {
         0 => text += &format!("alias \\u{end:04X} \\u0400\n"),
         1 => {}
         _ => text += &format!("glyph \\u{end:04X} 2\n"),
     }
     text += "ifGlyph \\u0400 char b 1\n";
-    Text { bytes: text.into_bytes(), alphabet }
+    if in_block {
+        text += "char d 1\nendIf\n";
+    }
+    Text { bytes: text.into_bytes(), alphabet, depth: usize::from(in_block) }
 }
 
 /// A chain of aliases from U+0400 to an explicit character, each alias said before those that lead to it: every
@@ -811,7 +1026,7 @@ fn faulty_attributes_line(random: &mut Random) -> Vec<u8> {
         0 => format!("{} {dot} =blink", random.pick(&UNKNOWN)),
         1 => format!(
             "{} {dot} =blink",
-            random.pick(&["Dot", "dots", "do", "ifCell 1 dot", "\u{FEFF}dot", "dot\u{A0}", "char"])
+            random.pick(&["Dot", "dots", "do", "ifCell 1 dot", "\u{FEFF}dot", "dot\u{A0}", "char", "else", "endIf"])
         ),
         2 => ["dot", "dot ", "dot 1", "dot 8\t", "dot #"][random.below(5)].into(),
         3 => format!("dot {} =blink", random.pick(&BAD_DOT_NUMBERS)),

@@ -46,12 +46,13 @@ fn check(words: &[u32]) -> Result<(Table, Pairs<'_>), Refusal> {
 
 pub fn compile(text: &[u8], words: &mut [u32]) -> Result<u32, Refusal> {
     let mut table = Table::new();
-    reference::compile_by(text, words, |line, words, count| {
-        let added = table.added(line, count)?;
+    reference::compile_by(text, words, |line, words, reading| {
+        let added = table.added(line, reading)?;
         if let Some(definition) = added {
             table.insert(definition.character, definition.meaning);
         }
-        Ok(reference::put(words, count, added))
+        reference::put(words, reading, added);
+        Ok(())
     })
 }
 

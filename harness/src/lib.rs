@@ -1,4 +1,4 @@
-//! Heathdapple from outside: document 01 written a second time in plain Rust, to run beside the proved library.
+//! Heathdapple from outside: the papers' rules written a second time in plain Rust, to run beside the proved library.
 
 #![forbid(unsafe_code)]
 

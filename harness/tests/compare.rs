@@ -3,7 +3,7 @@
 
 use harness::generate;
 use harness::random::Random;
-use harness::reference::{self, Refusal, PAIRS, WORDS};
+use harness::reference::{self, Refusal, CONDITIONS, PAIRS, WORDS};
 use harness::side::{Side, HASHED, LIBRARY, REFERENCE};
 use std::fmt::Debug;
 use std::process::exit;
@@ -20,10 +20,29 @@ const LEAST: u64 = 100;
 /// Differences after which the run stops.
 const ENOUGH: u64 = 10;
 const GUARD: usize = 16;
+/// The highest number of a refusal.
+const REFUSALS: usize = 18;
 const RULES: [usize; 15] = [1, 3, 4, 5, 6, 7, 8, 9, 19, 20, 21, 22, 23, 24, 25];
 
 /// Lengths of a buffer for all 256 cells or bytes.
 const LENGTHS: [usize; 4] = [0, 255, 256, 300];
+
+/// Lines of which every five are put together, so every four and fewer too.
+const BLOCK_LINES: [&str; 13] = [
+    "",
+    "ifGlyph a\n",
+    "ifNotGlyph a\n",
+    "ifNotGlyph a ifGlyph b\n",
+    "ifGlyph b ifNotGlyph a # c\r\n",
+    "else\n",
+    "endIf\n",
+    "char a 1\n",
+    "ifGlyph a char b 1\n",
+    "else x\n",
+    "endIf x\n",
+    "ifGlyph a endIf\n",
+    "char b\n",
+];
 
 const CALLS: [&str; 7] = ["compile", "look_up", "page", "typed", "entries", "attribute", "attributes"];
 const COMPILE: usize = 0;
@@ -39,12 +58,31 @@ struct Run {
     random: Random,
     case: String,
     calls: [u64; CALLS.len()],
-    refusals: [[u64; 17]; CALLS.len()],
+    refusals: [[u64; REFUSALS + 1]; CALLS.len()],
     rules: [u64; 32],
     links: u32,
-    texts: u64,
-    accepted: u64,
+    texts: Share,
+    with_blocks: Share,
+    full_depth: Share,
     differences: u64,
+}
+
+/// Texts and how many of them were accepted.
+#[derive(Clone, Copy, Default)]
+struct Share {
+    all: u64,
+    accepted: u64,
+}
+
+impl Share {
+    fn count(&mut self, accepted: bool) {
+        self.all += 1;
+        self.accepted += u64::from(accepted);
+    }
+
+    fn print(self, name: &str) {
+        println!("{name}: {}, accepted {} ({} %)", self.all, self.accepted, 100 * self.accepted / self.all.max(1));
+    }
 }
 
 fn shown(bytes: &[u8]) -> String {
@@ -357,7 +395,13 @@ impl Run {
     fn text(&mut self, text: &generate::Text, lookups: usize, all_cells: bool, damaged: usize) {
         let length = self.length_of_slice();
         let (words, count) = self.compile(&text.bytes, length);
-        self.texts += 1;
+        self.texts.count(count.is_some());
+        if text.depth > 0 {
+            self.with_blocks.count(count.is_some());
+        }
+        if text.depth == CONDITIONS {
+            self.full_depth.count(count.is_some());
+        }
         if self.random.percent(4) {
             let length = self.short_length();
             self.compile(&text.bytes, length);
@@ -365,7 +409,6 @@ impl Run {
         let Some(count) = count else {
             return;
         };
-        self.accepted += 1;
         let kept = words.clone();
         for _ in 0..lookups {
             let character = generate::query(&mut self.random, &text.alphabet);
@@ -449,11 +492,12 @@ fn main() {
         random: Random::new(0),
         case: String::new(),
         calls: [0; CALLS.len()],
-        refusals: [[0; 17]; CALLS.len()],
+        refusals: [[0; REFUSALS + 1]; CALLS.len()],
         rules: [0; 32],
         links: 0,
-        texts: 0,
-        accepted: 0,
+        texts: Share::default(),
+        with_blocks: Share::default(),
+        full_depth: Share::default(),
         differences: 0,
     };
     let begun = Instant::now();
@@ -513,6 +557,15 @@ fn main() {
             run.typed_all(&words[..length]);
         }
     });
+    part("any five lines", 11, (BLOCK_LINES.len() as u64).pow(5), &|run, case| {
+        let mut rest = case as usize;
+        let mut text = String::new();
+        for _ in 0..5 {
+            text += BLOCK_LINES[rest % BLOCK_LINES.len()];
+            rest /= BLOCK_LINES.len();
+        }
+        run.compile(text.as_bytes(), WORDS);
+    });
     part("any two bytes", 8, 1 << 16, &|run, case| {
         let two = [(case >> 8) as u8, case as u8];
         run.compile(&[b"char ", two.as_slice(), b" 1"].concat(), WORDS);
@@ -550,7 +603,9 @@ fn main() {
         }
     });
 
-    println!("texts of tables: {}, accepted {} ({} %)", run.texts, run.accepted, 100 * run.accepted / run.texts);
+    run.texts.print("texts of tables");
+    run.with_blocks.print("  of these with blocks");
+    run.full_depth.print(&format!("  of these {CONDITIONS} deep"));
     println!("longest walk looked up: {}", run.links);
     let all_calls: u64 = run.calls.iter().sum();
     println!("calls compared: {all_calls}");
@@ -561,7 +616,7 @@ fn main() {
     run.calls.iter().for_each(|count| print!("{count:>12}"));
     println!("{all_calls:>12}");
     let mut short = Vec::new();
-    for number in 1..=16 {
+    for number in 1..=REFUSALS {
         let counts: Vec<u64> = run.refusals.iter().map(|call| call[number]).collect();
         let all: u64 = counts.iter().sum();
         print!("  refusal {number:<4}");
@@ -591,11 +646,20 @@ fn main() {
     if !short.is_empty() {
         fail(format!("seen less than {LEAST} times: {}", short.join(", ")));
     }
-    if 2 * run.accepted < run.texts {
+    if 2 * run.texts.accepted < run.texts.all {
         fail("less than half of the texts were accepted".into());
     }
-    if run.texts < 100_000 {
+    if 2 * run.with_blocks.accepted < run.with_blocks.all {
+        fail("less than half of the texts with blocks were accepted".into());
+    }
+    if run.texts.all < 100_000 {
         fail("less than 100,000 texts".into());
+    }
+    if run.with_blocks.all < 50_000 {
+        fail("less than 50,000 texts with blocks".into());
+    }
+    if run.full_depth.accepted < LEAST {
+        fail(format!("less than {LEAST} accepted texts with blocks {CONDITIONS} deep"));
     }
     if others > 0 {
         fail("a rule number that no lookup gives".into());

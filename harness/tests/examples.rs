@@ -1,4 +1,5 @@
-//! The worked examples and edges of document 01 and the settled readings, with the answers written out, on every side.
+//! The worked examples and edges of document 01, the blocks of document 02 and the settled readings, with the answers
+//! written out, on every side.
 
 use harness::reference::{self, Place, Refusal, Shown, WORDS};
 use harness::side::SIDES;
@@ -186,9 +187,10 @@ fn ends_and_comments() {
     refuses("char a", 6);
     refuses("alias a", 6);
     refuses("ifGlyph", 6);
-    refuses("ifGlyph a", 6);
-    refuses("ifGlyph a #char b 1", 6);
-    refuses("ifGlyph a # char b 1", 6);
+    refuses("ifGlyph a", 18);
+    refuses("ifGlyph a #char b 1", 18);
+    refuses("ifGlyph a # char b 1", 18);
+    refuses("ifGlyph a # x", 18);
     refuses("ifGlyph \\q foo", 7);
     refuses("ifGlyph a foo \\q", 5);
     refuses("ifCell 9 ifGlyph", 8);
@@ -282,6 +284,333 @@ fn conditions() {
         &[char_pair('\u{2801}', 1), char_pair('d', 1)],
     );
     accepts("char \\uF061 1\nifGlyph \\uF061 char c 1", &[char_pair('\u{F061}', 1)]);
+}
+
+/// What a table of examples says of a text: the characters of its definitions in order, or number and line.
+#[derive(Clone, Copy)]
+enum Says {
+    Defines(&'static str),
+    Refuses(u32, u32),
+}
+
+use Says::{Defines, Refuses};
+
+/// Examples whose definitions are all `char C 1`.
+fn examples(table: &[(&str, Says)]) {
+    for (text, says) in table {
+        match says {
+            Defines(characters) => {
+                let pairs: Vec<[u32; 2]> = characters.chars().map(|character| char_pair(character, 1)).collect();
+                accepts(text, &pairs);
+            }
+            Refuses(number, line) => refuses_at(text, *number, *line),
+        }
+    }
+}
+
+#[test]
+fn blocks() {
+    examples(&[
+        ("ifGlyph a\nendIf", Defines("")),
+        ("ifGlyph a\nelse\nendIf\n", Defines("")),
+        ("ifNotGlyph a\nchar b 1\nendIf", Defines("b")),
+        ("ifGlyph a\nchar b 1\nendIf", Defines("")),
+        ("ifNotGlyph a\nchar b 1\nelse\nchar c 1\nendIf\nchar d 1", Defines("bd")),
+        ("ifGlyph a\nchar b 1\nelse\nchar c 1\nendIf\nchar d 1", Defines("cd")),
+        ("char a 1\nifGlyph a\nchar b 1\nelse\nchar c 1\nendIf", Defines("ab")),
+        ("char a 1\nifCell 1\nchar b 1\nelse\nchar c 1\nendIf", Defines("ab")),
+        ("char a 1\nifCell 2\nchar b 1\nelse\nchar c 1\nendIf", Defines("ac")),
+        ("char a 1\nifNotCell 1\nchar b 1\nelse\nchar c 1\nendIf", Defines("ac")),
+        ("ifNotCell 1\nchar b 1\nelse\nchar c 1\nendIf", Defines("b")),
+        // Several lines in a half, one block behind another, lines that are skipped.
+        ("ifNotGlyph a\nchar b 1\nchar c 1\n\n# d\nchar e 1\nendIf\nifGlyph b\nchar f 1\nendIf", Defines("bcef")),
+        // An inner block in each half.
+        (
+            "ifNotGlyph a\nifGlyph b\nchar c 1\nelse\nchar d 1\nendIf\nchar e 1\nelse\nifGlyph b\nchar f 1\nelse\n\
+             char g 1\nendIf\nchar h 1\nendIf",
+            Defines("de"),
+        ),
+        (
+            "ifGlyph a\nifGlyph b\nchar c 1\nelse\nchar d 1\nendIf\nchar e 1\nelse\nifGlyph b\nchar f 1\nelse\n\
+             char g 1\nendIf\nchar h 1\nendIf",
+            Defines("gh"),
+        ),
+        // A line with its own condition inside.
+        ("ifNotGlyph a\nifGlyph b char c 1\nifNotGlyph b char d 1\nendIf", Defines("d")),
+        ("ifGlyph a\nifNotGlyph b char d 1\nelse\nifNotGlyph b char e 1\nendIf", Defines("e")),
+    ]);
+}
+
+#[test]
+fn opening_lines() {
+    examples(&[
+        // A condition without its own operand opens nothing.
+        ("ifGlyph\nendIf", Refuses(6, 1)),
+        ("ifNotCell \t\nendIf", Refuses(6, 1)),
+        ("ifGlyph a ifGlyph\nendIf", Refuses(6, 1)),
+        // `#` as the operand, and a comment behind it.
+        ("ifGlyph #\nendIf", Defines("")),
+        ("ifNotGlyph #\nchar b 1\nendIf", Defines("b")),
+        ("char # 1\nifGlyph # # x\nchar b 1\nendIf", Defines("#b")),
+        ("ifGlyph # note\nendIf", Refuses(5, 1)),
+        ("ifGlyph #note\nendIf", Refuses(7, 1)),
+        ("ifCell # \nendIf", Refuses(8, 1)),
+        ("ifNotGlyph a #char b 1\nchar c 1\nendIf", Defines("c")),
+        ("ifNotGlyph a # x\nchar c 1\nendIf", Defines("c")),
+        ("ifNotGlyph a#\nchar c 1\nendIf", Refuses(7, 1)),
+        ("ifNotGlyph a x\nchar c 1\nendIf", Refuses(5, 1)),
+        ("ifNotGlyph a \\#\nchar c 1\nendIf", Refuses(5, 1)),
+        (" \tifNotGlyph a \t\nchar c 1\nendIf", Defines("c")),
+        // As whole texts.
+        ("ifGlyph a", Refuses(18, 1)),
+        ("ifGlyph a # x", Refuses(18, 1)),
+        ("ifGlyph a #char b 1", Refuses(18, 1)),
+        ("ifGlyph a\n", Refuses(18, 1)),
+        ("ifGlyph a\r", Refuses(18, 1)),
+    ]);
+}
+
+#[test]
+fn conditions_judged_once() {
+    examples(&[
+        // The lines inside make the condition false, or true.
+        ("ifNotGlyph a\nchar a 1\nchar b 1\nendIf", Defines("ab")),
+        ("ifNotGlyph a\nchar a 1\nelse\nchar c 1\nendIf", Defines("a")),
+        ("ifNotCell 1\nchar a 1\nchar b 1\nelse\nchar c 1\nendIf", Defines("ab")),
+        ("ifGlyph a\nchar a 1\nelse\nchar a 1\nchar b 1\nendIf", Defines("ab")),
+        ("ifCell 1\nchar b 1\nelse\nchar a 1\nchar c 1\nendIf", Defines("ac")),
+        // By the lines before, and not by those behind.
+        ("ifGlyph a\nchar b 1\nendIf\nchar a 1\nifGlyph a\nchar c 1\nendIf", Defines("ac")),
+        // An inner condition is judged at its own line.
+        ("ifNotGlyph a\nchar a 1\nifGlyph a\nchar b 1\nelse\nchar c 1\nendIf\nendIf", Defines("ab")),
+        ("ifNotGlyph a\nchar a 1\nifGlyph a char b 1\nelse\nchar c 1\nendIf", Defines("ab")),
+        // Lines not taken define nothing for a later condition.
+        ("ifGlyph a\nchar b 1\nendIf\nifGlyph b\nchar c 1\nelse\nchar d 1\nendIf", Defines("d")),
+    ]);
+}
+
+#[test]
+fn several_conditions_open_one_block() {
+    let halves = |front: &str, says: Says| {
+        let text = format!("char a 1\n{front}\nchar c 1\nelse\nchar d 1\nendIf\nchar e 1");
+        examples(&[(text.as_str(), says)]);
+    };
+    halves("ifGlyph a ifGlyph a", Defines("ace"));
+    halves("ifGlyph a ifGlyph b", Defines("ade"));
+    halves("ifGlyph b ifGlyph a", Defines("ae"));
+    halves("ifGlyph b ifGlyph b", Defines("ae"));
+    halves("ifGlyph a ifNotGlyph b ifCell 1", Defines("ace"));
+    halves("ifGlyph a ifNotGlyph b ifCell 2", Defines("ade"));
+    halves("ifGlyph a ifGlyph b ifCell 1", Defines("ae"));
+    halves("ifGlyph b ifGlyph a ifCell 2", Defines("ae"));
+    halves("ifGlyph a ifGlyph a # ifGlyph b", Defines("ace"));
+    examples(&[
+        // One block, so one `endIf`.
+        ("ifGlyph a ifGlyph b\nendIf\nendIf", Refuses(17, 3)),
+        ("ifGlyph a ifGlyph b\nelse\nelse\nendIf\nendIf", Refuses(17, 3)),
+        ("ifGlyph a ifGlyph b\nendIf\nchar c 1", Defines("c")),
+    ]);
+}
+
+#[test]
+fn lines_not_taken() {
+    examples(&[
+        // Neither half of a block inside them is taken.
+        ("ifGlyph a\nifNotGlyph b\nchar c 1\nelse\nchar d 1\nendIf\nendIf", Defines("")),
+        ("ifGlyph a\nifGlyph b\nchar c 1\nelse\nchar d 1\nendIf\nendIf", Defines("")),
+        ("ifNotGlyph a\nelse\nifGlyph b\nchar c 1\nelse\nchar d 1\nendIf\nendIf", Defines("")),
+        ("ifGlyph b ifGlyph b\nelse\nifGlyph b\nelse\nchar d 1\nendIf\nendIf", Defines("")),
+        // Well formed all the same.
+        ("ifGlyph a\nx\nendIf", Refuses(5, 2)),
+        ("ifGlyph a\nchar b\nendIf", Refuses(6, 2)),
+        ("ifGlyph a\nifGlyph\nendIf", Refuses(6, 2)),
+        ("ifGlyph a\nchar bc 1\nendIf", Refuses(7, 2)),
+        ("ifGlyph a\nifGlyph bc\nendIf\nendIf", Refuses(7, 2)),
+        ("ifGlyph a\nchar b 9\nendIf", Refuses(8, 2)),
+        ("ifGlyph a\nifCell 9 char b 1\nendIf", Refuses(8, 2)),
+        ("ifGlyph a\nchar b 1 x\nendIf", Refuses(9, 2)),
+        ("ifNotGlyph a\nelse\nchar b 1 x\nendIf", Refuses(9, 3)),
+        ("ifGlyph a\nifGlyph b ifGlyph c char d\nendIf", Refuses(6, 2)),
+        // Never 11 or 12.
+        ("char a 1\nifGlyph b\nchar a 1\nendIf", Defines("a")),
+        ("char a 1\nifGlyph a\nelse\nchar a 1\nendIf", Defines("a")),
+        ("char a 1\nifGlyph a\nchar a 1\nendIf", Refuses(11, 3)),
+        ("ifGlyph b\nalias a a\nendIf", Defines("")),
+        ("ifNotGlyph b\nalias a a\nendIf", Refuses(12, 2)),
+        ("ifNotGlyph a\nchar a 1\nelse\nchar a 1\nendIf", Defines("a")),
+    ]);
+    let long = "#".repeat(1025);
+    refuses_at(&format!("ifGlyph a\n{long}\nendIf"), 3, 2);
+    expect_bytes(b"ifGlyph a\n# \xFF\nendIf", Err((4, 2)), None);
+    // Nor 13.
+    let full: String = (0..1024).map(|k| format!("glyph \\u{:04X} 1\n", 0x4000 + k)).collect();
+    expect_bytes(format!("{full}ifCell 1\nchar a 1\nendIf").as_bytes(), Ok(1024), None);
+    expect_bytes(format!("ifNotCell 1\n{full}else\nchar a 1\nendIf").as_bytes(), Ok(1024), None);
+    refuses_at(&format!("{full}ifCell 1\nelse\nchar a 1\nendIf"), 13, 1027);
+}
+
+#[test]
+fn else_and_end_if() {
+    examples(&[
+        // Nothing open, or a second `else`, before what follows the word.
+        ("else", Refuses(17, 1)),
+        ("endIf", Refuses(17, 1)),
+        ("char a 1\nendIf", Refuses(17, 2)),
+        ("endIf x", Refuses(17, 1)),
+        ("else x", Refuses(17, 1)),
+        ("else # x", Refuses(17, 1)),
+        ("else ifGlyph b", Refuses(17, 1)),
+        (" \tendIf", Refuses(17, 1)),
+        ("ifGlyph a char b 1\nendIf", Refuses(17, 2)),
+        ("ifGlyph a\nendIf\nendIf", Refuses(17, 3)),
+        ("ifGlyph a\nendIf\nelse", Refuses(17, 3)),
+        ("ifGlyph a\nelse\nelse\nendIf", Refuses(17, 3)),
+        ("ifGlyph a\nelse\nelse x\nendIf", Refuses(17, 3)),
+        ("ifNotGlyph a\nelse\nelse\nendIf", Refuses(17, 3)),
+        // The `else` of another block is none of the innermost, and the reverse.
+        ("ifGlyph a\nelse\nifGlyph b\nelse\nendIf\nendIf", Defines("")),
+        ("ifGlyph a\nifGlyph b\nelse\nendIf\nelse\nendIf", Defines("")),
+        ("ifGlyph a\nifGlyph b\nelse\nendIf\nelse\nelse\nendIf", Refuses(17, 6)),
+        ("ifGlyph a\nelse\nendIf\nifGlyph a\nelse\nendIf", Defines("")),
+        // Inside lines not taken too.
+        ("ifGlyph a\nifGlyph b\nelse\nelse\nendIf\nendIf", Refuses(17, 4)),
+        ("ifGlyph a\nifGlyph b\nelse\nelse x\nendIf\nendIf", Refuses(17, 4)),
+        // Text behind them.
+        ("ifGlyph a\nendIf x", Refuses(9, 2)),
+        ("ifGlyph a\nelse x\nendIf", Refuses(9, 2)),
+        ("ifGlyph a\nelse ifGlyph b\nendIf", Refuses(9, 2)),
+        ("ifGlyph a\nelse char b 1\nendIf", Refuses(9, 2)),
+        ("ifGlyph a\nendIf \\#", Refuses(9, 2)),
+        ("ifGlyph a\nelse endIf", Refuses(9, 2)),
+        ("ifGlyph a\nelse # x\nchar b 1\nendIf #x", Defines("b")),
+        ("ifGlyph a\n\telse\t#\nchar b 1\n  endIf  ", Defines("b")),
+        ("ifGlyph a\r\nelse\r\nchar b 1\r\nendIf\r", Defines("b")),
+        ("ifGlyph a\nelse\r\r\nendIf", Refuses(5, 2)),
+        ("ifGlyph a\nendIf\u{A0}", Refuses(5, 2)),
+        // After a condition, whatever is open.
+        ("ifGlyph a else", Refuses(5, 1)),
+        ("ifGlyph a endIf", Refuses(5, 1)),
+        ("ifGlyph a\nifGlyph b else\nendIf", Refuses(5, 2)),
+        ("ifGlyph a\nifGlyph b endIf", Refuses(5, 2)),
+        ("ifGlyph a\nelse\nifGlyph b else\nendIf", Refuses(5, 3)),
+        ("ifGlyph a\nifGlyph b endIf x", Refuses(5, 2)),
+        // Exact words.
+        ("ifGlyph a\nelse#\nendIf", Refuses(5, 2)),
+        ("ifGlyph a\nendIf#", Refuses(5, 2)),
+        ("ifGlyph a\nElse\nendIf", Refuses(5, 2)),
+        ("ifGlyph a\nELSE\nendIf", Refuses(5, 2)),
+        ("ifGlyph a\nendif", Refuses(5, 2)),
+        ("ifGlyph a\nEndIf", Refuses(5, 2)),
+        ("ifGlyph a\nelseIf\nendIf", Refuses(5, 2)),
+        ("ifGlyph a\nelse\nendIfs", Refuses(5, 3)),
+        ("endif", Refuses(5, 1)),
+        ("else#", Refuses(5, 1)),
+        // As operands they are words like any other.
+        ("char else 1", Refuses(7, 1)),
+        ("ifCell endIf\nendIf", Refuses(8, 1)),
+        ("# else\n#endIf\nchar a 1", Defines("a")),
+    ]);
+}
+
+#[test]
+fn at_most_eight() {
+    let open = |count: usize| "ifNotGlyph z\n".repeat(count);
+    let close = |count: usize| "endIf\n".repeat(count);
+    let front = |count: usize| "ifNotGlyph z ".repeat(count);
+    let says = |text: String, says: Says| examples(&[(text.as_str(), says)]);
+    // Blocks alone.
+    says(open(8) + "char a 1\n" + &close(8), Defines("a"));
+    says(open(9) + "char a 1\n" + &close(9), Refuses(10, 9));
+    says(format!("{}else\n{}", open(8), close(8)), Defines(""));
+    // A ninth condition with a directive behind it, at its word.
+    says(open(8) + "ifNotGlyph z char a 1\n" + &close(8), Refuses(10, 9));
+    says(open(8) + "ifNotGlyph\n" + &close(8), Refuses(10, 9));
+    says(open(8) + "ifCell 9\n" + &close(8), Refuses(10, 9));
+    says(open(8) + "x\n" + &close(8), Refuses(5, 9));
+    // Blocks and conditions of a line together.
+    for blocks in 0..=8 {
+        let room = 8 - blocks;
+        says(open(blocks) + &front(room) + "char a 1\n" + &close(blocks), Defines("a"));
+        says(open(blocks) + &front(room + 1) + "char a 1\n" + &close(blocks), Refuses(10, blocks as u32 + 1));
+        says(open(blocks) + &front(room + 1) + "\n" + &close(blocks + 1), Refuses(10, blocks as u32 + 1));
+        says(open(blocks) + &front(room) + "ifCell\n" + &close(blocks), Refuses(10, blocks as u32 + 1));
+    }
+    for blocks in 0..=7 {
+        says(open(blocks) + &front(8 - blocks) + "\nchar a 1\n" + &close(blocks + 1), Defines("a"));
+    }
+    // A block counts as one, however many conditions its line had.
+    says(format!("{}\n{}char a 1\n{}", front(8), open(7), close(8)), Defines("a"));
+    says(format!("{}\n{}char a 1\n{}", front(8), open(8), close(9)), Refuses(10, 9));
+    says(format!("{}\n{}char a 1\nendIf\n", front(8), front(7)), Defines("a"));
+    says(format!("{}\n{}char a 1\nendIf\n", front(8), front(8)), Refuses(10, 2));
+    // A closed block does not count; the half behind `else` counts as the first.
+    says(format!("{}{}{}char a 1\n{}", open(8), close(1), open(1), close(8)), Defines("a"));
+    says((open(1) + &close(1)).repeat(20) + "char a 1", Defines("a"));
+    says(format!("{}else\nifNotGlyph z\n{}", open(8), close(9)), Refuses(10, 10));
+    // In lines not taken the same.
+    let not_taken = |count: usize| "ifGlyph z\n".repeat(count);
+    says(not_taken(8) + "char a 1\n" + &close(8), Defines(""));
+    says(not_taken(9) + &close(9), Refuses(10, 9));
+    says(not_taken(8) + "ifGlyph z char a 1\n" + &close(8), Refuses(10, 9));
+    says(not_taken(3) + &front(5) + "char a 1\n" + &close(3), Defines(""));
+    says(not_taken(3) + &front(6) + "char a 1\n" + &close(3), Refuses(10, 4));
+    // Of several faults on a line the leftmost.
+    says(open(8) + "ifCell 1 x\n" + &close(8), Refuses(10, 9));
+    says(open(7) + "ifCell 9 ifCell 1 x\n" + &close(7), Refuses(8, 8));
+    says(open(7) + "ifCell 1 ifCell 9 x\n" + &close(7), Refuses(10, 8));
+}
+
+#[test]
+fn blocks_left_open() {
+    examples(&[
+        // The innermost's condition, not its `else`.
+        ("char a 1\nifGlyph a\nchar b 1", Refuses(18, 2)),
+        ("ifGlyph a\nchar b 1\nelse\nchar c 1", Refuses(18, 1)),
+        ("ifGlyph a\nifGlyph b\nchar c 1", Refuses(18, 2)),
+        ("ifGlyph a\nifGlyph b\nelse\n", Refuses(18, 2)),
+        ("ifGlyph a\nifGlyph b\nendIf\n", Refuses(18, 1)),
+        ("ifGlyph a\nelse\nifGlyph b\nendIf\n", Refuses(18, 1)),
+        ("ifGlyph a\n\n\nifNotGlyph b\nelse\n\n", Refuses(18, 4)),
+        ("ifGlyph a\nendIf\nifGlyph b", Refuses(18, 3)),
+        // Whether or not a half is taken.
+        ("ifGlyph a ifGlyph b\n", Refuses(18, 1)),
+        ("ifGlyph a\nifGlyph b ifGlyph c\nelse\n", Refuses(18, 2)),
+        ("ifNotGlyph a\nifGlyph b\nchar c 1\n", Refuses(18, 2)),
+        ("ifNotGlyph a\nifNotGlyph b\nelse\n", Refuses(18, 2)),
+        ("ifNotGlyph a\nchar a 1\n", Refuses(18, 1)),
+        // After all line faults.
+        ("ifGlyph a\nx", Refuses(5, 2)),
+        ("ifGlyph a\nchar b 1 x\n", Refuses(9, 2)),
+        ("ifGlyph a\nelse\nelse", Refuses(17, 3)),
+        ("char a 1\nifGlyph a\nchar a 1", Refuses(11, 3)),
+        ("ifNotGlyph a\nalias b b", Refuses(12, 2)),
+        // A block that its line does not open is not left open.
+        ("ifGlyph a char b 1", Defines("")),
+        ("ifNotGlyph a char b 1 # endIf", Defines("b")),
+    ]);
+    let deep = "ifNotGlyph z\n".repeat(8);
+    refuses_at(&deep, 18, 8);
+    refuses_at(&format!("{deep}char a 1\n{}", "endIf\n".repeat(7)), 18, 1);
+    refuses_at(&format!("{}ifGlyph a\n", "\n".repeat(65_000)), 18, 65_001);
+    // A text or a slice that is refused at once opens nothing.
+    refuses_at(&format!("ifGlyph a\n{}", "\n".repeat(65_527)), 1, 0);
+    refuses_at(&format!("ifGlyph a\n{}", "\n".repeat(65_526)), 18, 1);
+    for side in SIDES {
+        let mut words = [5; WORDS - 1];
+        assert_eq!((side.compile)(b"ifGlyph a", &mut words).map_err(pair), Err((2, 0)), "{}", side.name);
+        assert!(words.iter().all(|word| *word == 5), "{}", side.name);
+    }
+}
+
+#[test]
+fn kinds_in_blocks() {
+    accepts(
+        "ifNotGlyph a\nglyph a 1\nalias b a\nelse\nalias a b\nendIf\nifGlyph b\nbyte \\xE9 2\nelse\nbyte \\xE9 3\nendIf",
+        &[glyph_pair('a', 1), alias_pair('b', 'a'), glyph_pair('é', 2)],
+    );
+    shows("ifGlyph a\nchar a 1\nelse\nchar a 12\nendIf\n", 'a' as u32, 3, 3, 0);
+    shows("ifNotGlyph a\nalias b a\nelse\nchar b 1\nendIf\nchar a 1\n", 'b' as u32, 1, 4, 1);
+    types("ifCell 1\nchar a 1\nelse\nchar b 1\nendIf\nchar c 1\n", 1, Some('b' as u32));
 }
 
 #[test]
@@ -503,7 +832,7 @@ fn attributes() {
         }
         assert_eq!((side.attribute_cell)(b"", 0xFF), Ok(0), "{}", side.name);
         assert_eq!((side.attribute_cell)(&[b'\n'; 65_537], 0).map_err(pair), Err((1, 0)), "{}", side.name);
-        let faults: [(&[u8], u32, u32); 24] = [
+        let faults: [(&[u8], u32, u32); 28] = [
             (b"dot 12 =blink", 8, 1),
             (b"dot 0 =blink", 8, 1),
             (b"dot 9 =blink", 8, 1),
@@ -524,6 +853,10 @@ fn attributes() {
             (b"dot 1 =blink x", 9, 1),
             (b"#\ndot 1 =blink\ndot 1 =blink", 11, 3),
             (b"ifCell 1 dot 1 =blink", 5, 1),
+            (b"ifCell 1", 5, 1),
+            (b"else", 5, 1),
+            (b"endIf", 5, 1),
+            (b"dot 1 =blink\nendIf", 5, 2),
             (b"Dot 1 =blink", 5, 1),
             (b"char a 1", 5, 1),
             (b"\n#\xFF", 4, 2),

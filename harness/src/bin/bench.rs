@@ -212,19 +212,40 @@ fn padded() -> String {
         .collect()
 }
 
-/// 65,536 bytes: a chain of 1,023 aliases, then lines of eight conditions, each of which walks all of it.
-fn worst() -> String {
+/// 65,536 bytes: a chain of 1,023 aliases from U+0400, then the same lines as often as they fit.
+fn long_chain_and(lines: &str) -> String {
     let link = |k: u32| char::from_u32(0x400 + k).expect("a scalar");
     let last = PAIRS as u32 - 1;
     let mut text = format!("char {} 1\n", link(last));
     for k in (0..last).rev() {
         text += &format!("alias {} {}\n", link(k), link(k + 1));
     }
-    let line = format!("{}ifNotGlyph \u{400} char a 1\n", "ifGlyph \u{400} ".repeat(7));
-    while text.len() + line.len() <= TEXT_BYTES {
-        text += &line;
+    while text.len() + lines.len() <= TEXT_BYTES {
+        text += lines;
     }
     text
+}
+
+/// Lines of eight conditions, each of which walks all of the chain.
+fn conditions_on_chain() -> String {
+    long_chain_and(&format!("{}ifNotGlyph \u{400} char a 1\n", "ifGlyph \u{400} ".repeat(7)))
+}
+
+/// The fewest bytes for eight such walks: they open a block, which is closed at once.
+fn worst() -> String {
+    long_chain_and(&format!("{}ifGlyph \u{400}\nendIf\n", "ifGlyph \u{400} ".repeat(7)))
+}
+
+/// Eight nested blocks with 1,024 definitions inside, which are taken.
+fn blocks_taken() -> String {
+    "ifNotGlyph a\n".repeat(8) + &definitions(PAIRS) + &"endIf\n".repeat(8)
+}
+
+/// As many blocks as fit inside seven others, each of two halves with a definition; nothing is taken.
+fn blocks_not_taken() -> String {
+    let (front, end) = ("ifGlyph a\n".repeat(7), "endIf\n".repeat(7));
+    let block = "ifGlyph b\nchar a 12\nelse\nchar a 13\nendIf\n";
+    front.clone() + &block.repeat((TEXT_BYTES - front.len() - end.len()) / block.len()) + &end
 }
 
 /// Lines of 1,024 bytes with eight conditions, of which the first fails.
@@ -296,9 +317,12 @@ fn compile_rows(chain_text: &str, forward_chain_text: &str) {
     compile_row("1,024 char lines padded to 65,536 bytes", &padded());
     compile_row("65,536 empty lines", &"\n".repeat(TEXT_BYTES));
     compile_row("64 full lines of 8 conditions, empty table", &failing_conditions());
+    compile_row("1,024 definitions in 8 nested blocks, taken", &blocks_taken());
+    compile_row("65,536 bytes of blocks in 7 nested ones, not taken", &blocks_not_taken());
     compile_row("chain of 1,000 aliases, targets said later", forward_chain_text);
     compile_row("chain of 1,000 aliases, targets said earlier", chain_text);
-    compile_row("worst: chain of 1,023 aliases, then 8 conditions a line", &worst());
+    compile_row("chain of 1,023 aliases, then 8 conditions a line", &conditions_on_chain());
+    compile_row("worst: chain of 1,023 aliases, blocks of 8 conditions", &worst());
 }
 
 fn typed_rows(sizes: [Size; 2]) {
