@@ -63,7 +63,7 @@ room-left all (suc n) = rw (stack-length unused all n)
 -- ---- what a line does to them
 
 module _ (s : Blocks) (number : ℕ) where
-  pub opened-changed : (first second : Bool) → s .depth < depthLimit → length (s .blocks) ≡ 8 → length (s .starts) ≡ 8
+  pub opened-changed : (first second : Bool) → s .depth < depthLimit → length (s .blocks) ≡ depthLimit → length (s .starts) ≡ depthLimit
       → Changed s (Open first second) number (record { blocks = set (s .blocks) (s .depth) (openBlock first second false); starts = set (s .starts) (s .depth) number; depth = s .depth + 1 })
   opened-changed first second h l m = record {
     blocks = stack-put _ (s .blocks) (s .depth) (openBlock first second false) (omega arith);
@@ -81,7 +81,7 @@ module _ (s : Blocks) (number : ℕ) where
 
   -- a block is open
   module _ (h : s .depth ≡ 0 → ⊥) (k : s .depth ≤ depthLimit) where
-    pub turned-changed : length (s .blocks) ≡ 8
+    pub turned-changed : length (s .blocks) ≡ depthLimit
         → Changed s Else number (record { blocks = set (s .blocks) (s .depth - 1) (openBlock (getD (s .blocks) (s .depth - 1) unused .first) (getD (s .blocks) (s .depth - 1) unused .second) true); starts = s .starts; depth = s .depth })
     turned-changed l =
         let b = getD (s .blocks) (s .depth - 1) unused in

@@ -17,8 +17,8 @@ pub struct OpenBlock {
 
 // The open blocks and the numbers of the lines that opened them: the first `depth` of each array, the innermost last.
 pub struct Blocks {
-    pub blocks: [OpenBlock; 8],
-    pub starts: [usize; 8],
+    pub blocks: [OpenBlock; DEPTH_LIMIT],
+    pub starts: [usize; DEPTH_LIMIT],
     pub depth: usize,
 }
 
@@ -46,8 +46,8 @@ pub fn no_blocks() -> Blocks
         first: false,
         second: false,
         past: false,
-    }; 8];
-    let starts = [0usize; 8];
+    }; DEPTH_LIMIT];
+    let starts = [0usize; DEPTH_LIMIT];
     Blocks {
         blocks,
         starts,

@@ -32,14 +32,14 @@ pub record Took (ds gs rs : List Definition) : Type 0 where
   pub fit : AllInRange rs
 
 -- lines that are all accepted take what takes effect at them
-pub run-took : (ls : List (List ℕ)) (n : ℕ) (s : SoFar) {g : SoFar} → runLines step ls n s ≡ accepted g → Took (s .definitions) (g .definitions) (effectsWithin (s .blocks) (s .definitions) ls)
+pub run-took : (ls : List (List ℕ)) (n : ℕ) (s : SoFar) {g : SoFar} → runLines step ls n s ≡ accepted g → Took (s .definitions) (g .definitions) (effectsWithin (s .definitions) (s .blocks) ls)
 unfolding runLines step effectsWithin
 run-took [] n s e = record { after = cc (append-nil (s .definitions)); admits = tt; fit = tt }
 run-took (l ∷ ls) n s {g} e = go (λ t. run-took ls (n + 1) t) (lineEffect (s .definitions) (s .blocks) (withoutCR l)) refl e
   where
-    go : ((t : SoFar) → runLines step ls (n + 1) t ≡ accepted g → Took (t .definitions) (g .definitions) (effectsWithin (t .blocks) (t .definitions) ls))
+    go : ((t : SoFar) → runLines step ls (n + 1) t ≡ accepted g → Took (t .definitions) (g .definitions) (effectsWithin (t .definitions) (t .blocks) ls))
         → (r : Reading) → lineEffect (s .definitions) (s .blocks) (withoutCR l) ≡ r → onStep (withEffect s r) n (λ t. runLines step ls (n + 1) t) ≡ accepted g
-        → Took (s .definitions) (g .definitions) (andAfter (s .definitions) (s .blocks) r (λ ds bs. effectsWithin bs ds ls))
+        → Took (s .definitions) (g .definitions) (andAfter (s .definitions) (s .blocks) r (λ ds bs. effectsWithin ds bs ls))
     go ih (Fault refusal left) p e = record { after = cc; admits = tt; fit = tt }
     go ih NoEffect p e = ih _ e
     go ih (Block read) p e = ih _ e

@@ -80,13 +80,13 @@ andAfter ds bs NoEffect more = more ds bs
 andAfter ds bs (Define d left) more = d ∷ more (ds ++ d ∷ []) bs
 andAfter ds bs (Block line) more = more ds (blocksAfter line bs)
 
-unfoldable pub effectsWithin : List OpenBlock → List Definition → List (List ℕ) → List Definition
-effectsWithin bs ds [] = []
-effectsWithin bs ds (l ∷ ls) = andAfter ds bs (lineEffect ds bs (withoutCR l)) (λ ds′ bs′. effectsWithin bs′ ds′ ls)
+unfoldable pub effectsWithin : List Definition → List OpenBlock → List (List ℕ) → List Definition
+effectsWithin ds bs [] = []
+effectsWithin ds bs (l ∷ ls) = andAfter ds bs (lineEffect ds bs (withoutCR l)) (λ ds′ bs′. effectsWithin ds′ bs′ ls)
 
 -- where no block is open before the first of the lines
 abbrev pub effects : List Definition → List (List ℕ) → List Definition
-effects ds ls = effectsWithin [] ds ls
+effects ds ls = effectsWithin ds [] ls
 
 -- the answer: the count of definitions, or the refusal with its line
 abbrev pub compiledCount : Outcome (List Definition) → Reply ℕ
