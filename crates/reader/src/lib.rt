@@ -6,6 +6,7 @@ use definitions::Cell;
 use definitions::Definition;
 use definitions::Meaning;
 use lines::Opening;
+use lines::Word;
 use operands::DotsOperand;
 use operands::Operand;
 ghost use mathlib.Core.Path.{_≡_};
@@ -13,6 +14,7 @@ ghost use mathlib.Core.Bool.{Bool·beq};
 ghost use Prim.Native.Nat.{_+_, _-_, _*_, _≤_, _<_};
 ghost use lib.ListN.{length};
 ghost use Rattle.basics.specs.Choice.{pick};
+ghost use Rattle.lines.specs.Internal.{NextWord};
 ghost use Rattle.table.specs.Words.{definitions};
 ghost use Rattle.reader.specs.Conditions.{hasGlyph, hasCell};
 ghost use Rattle.reader.specs.Reader.{conditionOf, directiveOf, finished, dotsLine, aliasLine, conditionAt, glyphCondition, cellCondition, afterDirective, frontOf, ifHolds, readFrom, blockLine, readFirst, readLine};
@@ -262,13 +264,12 @@ fn after_directive(
     }
 }
 
-// The directive at the front of what is left of a line.
-fn front_of(words: &[u32], count: usize, line: &[u8], room: usize) -> Front
-    requires { ⌜ 2 * count ≤ length (now words) ⌝ }
+// The directive at the front of what is left of a line, whose first word is `w`.
+fn front_of(words: &[u32], count: usize, line: &[u8], w: Word, room: usize) -> Front
+    requires { ⌜ (2 * count ≤ length (now words)) × NextWord (now line) 0 w ⌝ }
     ensures { λ r. ⌜ r ≡ frontOf (definitions count (now (words .entry))) room (now (line .entry)) ⌝ }
     ensures { λ r. ⌜ FrontWithin r room (length (now (line .entry))) ⌝ }
 {
-    let w = lines::next_word(line, 0);
     let start = w.start;
     let end = w.end;
     let directive = directive_of(&line[start..end]);
@@ -290,17 +291,20 @@ fn if_holds(holds: bool, reading: Reading) -> Reading
     }
 }
 
-// A directive, with room for so many conditions: it calls itself on the rest of the line.
-fn read_from(words: &[u32], count: usize, line: &[u8], room: usize) -> Reading
-    requires { ⌜ 2 * count ≤ length (now words) ⌝ }
+// A directive, with room for so many conditions, whose word is `w`: it calls itself on the rest of the line.
+fn read_from(words: &[u32], count: usize, line: &[u8], w: Word, room: usize) -> Reading
+    requires { ⌜ (2 * count ≤ length (now words)) × NextWord (now line) 0 w ⌝ }
     ensures { λ r. ⌜ r ≡ readFrom (definitions count (now (words .entry))) room (now (line .entry)) ⌝ }
 {
-    match front_of(words, count, line, room) {
+    match front_of(words, count, line, w, room) {
         Front::Whole(reading) => reading,
-        Front::Condition { holds, rest } => if_holds(
-            holds,
-            read_from(words, count, &line[rest..], room - 1),
-        ),
+        Front::Condition { holds, rest } => {
+            let next = lines::next_word(&line[rest..], 0);
+            if_holds(
+                holds,
+                read_from(words, count, &line[rest..], next, room - 1),
+            )
+        }
     }
 }
 
@@ -335,7 +339,7 @@ fn read_first(words: &[u32], count: usize, around: Around, line: &[u8]) -> Readi
             BlockLine::EndIf,
         );
     }
-    if_holds(around.taken, read_from(words, count, line, around.room))
+    if_holds(around.taken, read_from(words, count, line, w, around.room))
 }
 
 // A whole line, without its end.
