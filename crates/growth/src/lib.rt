@@ -1,1 +1,1 @@
-// Demand 3 and the marked cases: theorems over the definitions of the crates below, and no code.
+// Demand 3, the marked cases and worked blocks: theorems over the definitions of the crates below, and no code.
