@@ -3,7 +3,7 @@ use Prim.Native.Nat.{ℕ, zero, suc, _≤_, _<_}
 use mathlib.Core.Path.{_≡_}
 use mathlib.Core.Bool.{false}
 use mathlib.Core.List.{List, [], _∷_}
-use lib.ListN.{getD}
+use lib.ListN.{getD, replicate}
 use Rattle.blocks.specs.Blocks.{depthLimit, openBlock, blocksAfter, startsAfter}
 use Rattle.blocks.specs.declared.OpenBlock.{OpenBlock}
 use Rattle.blocks.specs.declared.Blocks.{Blocks}
@@ -18,6 +18,10 @@ stack d xs (suc n) = getD xs n d ∷ stack d xs n
 -- what stands in the places that no block has
 abbrev pub unused : OpenBlock
 unused = openBlock false false false
+
+-- no block open
+abbrev pub noBlocks : Blocks
+noBlocks = record { blocks = replicate depthLimit unused; starts = replicate depthLimit 0; depth = 0 }
 
 abbrev pub blocksOf : Blocks → List OpenBlock
 blocksOf s = stack unused (s .blocks) (s .depth)

@@ -3,7 +3,7 @@ ghost use mathlib.Core.Path.{_≡_};
 ghost use mathlib.Core.List.{_∷_};
 ghost use Prim.Native.Nat.{_-_, _<_, _≤_};
 ghost use Rattle.blocks.specs.Blocks.{depthLimit, isTaken, aroundOf, inert};
-ghost use Rattle.blocks.specs.Internal.{stack, blocksOf, startsOf, RoomFor, Changed};
+ghost use Rattle.blocks.specs.Internal.{stack, noBlocks, blocksOf, startsOf, RoomFor, Changed};
 
 // How many open blocks and conditions of a line there may be together.
 const DEPTH_LIMIT: usize = 8;
@@ -40,7 +40,7 @@ pub struct Around {
 
 // No block open.
 pub fn no_blocks() -> Blocks
-    ensures { λ r. ⌜ r .depth ≡ 0 ⌝ }
+    ensures { λ r. ⌜ r ≡ noBlocks ⌝ }
 {
     let blocks = [OpenBlock {
         first: false,

@@ -14,13 +14,14 @@ use Rattle.lines.specs.declared.Compiled.{Compiled}
 use Rattle.lines.specs.declared.Compiled.the-variants.{Accepted, Refused}
 use Rattle.lines.specs.declared.Stopped.the-variants.{No, By}
 use Rattle.lines.proofs.Texts.{Reached, lines-read, line-refused, line-read}
-use Rattle.blocks.specs.Internal.{stack, startsOf}
+use Rattle.blocks.specs.Internal.{stack, noBlocks, startsOf}
+use Rattle.blocks.specs.declared.Blocks.{Blocks}
 use Rattle.blocks.proofs.Stacks.{stack-none}
 use Rattle.table.specs.Words.{tableWords, definitions}
 use Rattle.table.specs.Internal.{Written}
 use Rattle.table.proofs.Written.{zeroed-beyond, written-length}
 use Rattle.compiler.specs.Compile.{begun, step, closing, compiled, compileReply, compileWords}
-use Rattle.compiler.specs.Internal.{standing, Ready, Leaves, Settled}
+use Rattle.compiler.specs.Internal.{standing, firstState, Ready, Leaves, Settled}
 use Rattle.compiler.specs.declared.State.{State}
 use Rattle.compiler.specs.declared.Stepped.{Stepped}
 use Rattle.compiler.proofs.Effects.{step-counts}
@@ -34,14 +35,18 @@ pub record Come (text zeroed ws : List ℕ) (s : State) (at : ℕ) : Type 0 wher
   pub beyond : drop tableWords ws ≡ drop tableWords zeroed
   pub same : length ws ≡ length zeroed
 
-pub come-first : (text zeroed : List ℕ) (s : State) → Written zeroed 0 → length text ≤ textLimit → (s .count ≡ 0) × (s .lines ≡ 0) × (s .blocks .depth ≡ 0) → Come text zeroed zeroed s 0
+pub state-first : {blocks : Blocks} → blocks ≡ noBlocks → record { count = 0; lines = 0; blocks = blocks } ≡ firstState
+state-first q = rw q
+
+pub come-first : (text zeroed : List ℕ) (s : State) → Written zeroed 0 → length text ≤ textLimit → s ≡ firstState → Come text zeroed zeroed s 0
 unfolding definitions runText stack
-come-first text zeroed s w short q = record {
-  reached = record { within = omega arith; count = omega (arith, q .1); left = rw (le-ltb _ _ short, q .0, q .1, q .2) };
-  ready = record { written = rw (q .0) w; depth = omega (arith, q .2) };
-  beyond = refl;
-  same = refl;
-}
+come-first text zeroed s w short q =
+    rw q (record {
+      reached = record { within = omega arith; count = omega arith; left = rw (le-ltb _ _ short) };
+      ready = record { written = w; depth = omega arith };
+      beyond = refl;
+      same = refl;
+    })
 
 module _ (text zeroed ws : List ℕ) (s : State) (at : ℕ) (here : Come text zeroed ws s at) where
   pub come-end : {r : Compiled} {last : List ℕ} → length text ≤ at → Settled (closing (accepted (standing ws s))) ws r last → Settled (compiled text) zeroed r last

@@ -8,7 +8,7 @@ use Rattle.lines.specs.Internal.{leaves}
 use Rattle.lines.specs.declared.Compiled.{Compiled}
 use Rattle.lines.specs.declared.Stopped.the-variants.{No}
 use Rattle.blocks.specs.Blocks.{depthLimit}
-use Rattle.blocks.specs.Internal.{blocksOf, startsOf}
+use Rattle.blocks.specs.Internal.{noBlocks, blocksOf, startsOf}
 use Rattle.blocks.specs.declared.Blocks.{Blocks}
 use Rattle.definitions.specs.declared.Definition.{Definition}
 use Rattle.table.specs.Words.{tableWords, definitions}
@@ -20,6 +20,10 @@ use Rattle.compiler.specs.declared.Stepped.{Stepped}
 -- what words and a state stand for
 abbrev pub standing : List ℕ → State → SoFar
 standing ws s = soFar (definitions (s .count) ws) (blocksOf (s .blocks)) (startsOf (s .blocks)) (s .lines)
+
+-- before the first line
+abbrev pub firstState : State
+firstState = record { count = 0; lines = 0; blocks = noBlocks }
 
 pub record Ready (ws : List ℕ) (s : State) : Type 0 where
   pub written : Written ws (s .count)

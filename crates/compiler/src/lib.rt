@@ -18,7 +18,7 @@ ghost use Rattle.blocks.specs.Internal.{blocksOf};
 ghost use Rattle.table.specs.Words.{definitions};
 ghost use Rattle.table.specs.Internal.{Written};
 ghost use Rattle.compiler.specs.Compile.{effectOf, lineEffect, closing, compiled, compileReply, compileWords};
-ghost use Rattle.compiler.specs.Internal.{standing, Ready, goneOn, Leaves, Settled};
+ghost use Rattle.compiler.specs.Internal.{standing, firstState, Ready, goneOn, Leaves, Settled};
 
 // What the lines so far leave, beside the words: how many definitions and lines there were, and the open blocks.
 pub struct State {
@@ -111,7 +111,7 @@ fn step_line(words: &mut [u32], state: State, line: &[u8]) -> Stepped
 
 // Before the first line.
 fn begun() -> State
-    ensures { λ r. ⌜ (r .count ≡ 0) × (r .lines ≡ 0) × (r .blocks .depth ≡ 0) ⌝ }
+    ensures { λ r. ⌜ r ≡ firstState ⌝ }
 {
     let blocks = blocks::no_blocks();
     State {
