@@ -16,7 +16,7 @@ take-line-spec =
     (λ c κs. (search needs, search had-room))
     (λ c κs. search needs)
     (λ c. search needs)
-    (λ c κs. (search put-room, search put-small))
+    (λ c κs. (search (put-room, needs), search put-small))
     (λ c. search needs)
     (λ c κs. search needs)
     (λ c. search needs)
