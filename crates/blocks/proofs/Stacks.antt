@@ -5,7 +5,7 @@ use mathlib.Core.Bool.{Bool, true, false, not}
 use mathlib.Core.List.{List, [], _∷_}
 use native.Mathlib.Numerals.{add-one}
 use native.Mathlib.Omega.{arith}
-use lib.ListN.{length, getD, set}
+use lib.ListN.{length, getD, set, length-drop}
 use lib.Seq.{getD-set-same, getD-set-other}
 use Rattle.blocks.specs.Blocks.{depthLimit, openBlock, isTaken, around, aroundOf, blocksAfter, startsAfter}
 use Rattle.blocks.specs.Internal.{stack, unused, RoomFor, Changed}
@@ -101,10 +101,7 @@ pub after-alike : (line : BlockLine) (number : ℕ) (bs : List OpenBlock) (start
 after-alike (Open first second) number bs starts e = ap suc e
 after-alike Else number [] starts e = e
 after-alike Else number (b ∷ bs) starts e = e
-after-alike EndIf number [] [] e = e
-after-alike EndIf number [] (n ∷ starts) e = absurd (omega arith)
-after-alike EndIf number (b ∷ bs) [] e = absurd (omega arith)
-after-alike EndIf number (b ∷ bs) (n ∷ starts) e = omega arith
+after-alike EndIf number bs starts e = rw (length-drop 1 bs, length-drop 1 starts, e)
 
 -- by what a match told of the line
 pub room-told : (line : BlockLine) (first second : Bool) (n : ℕ) → RoomFor (depthLimit - n) line → line ≡ Open first second → n < depthLimit

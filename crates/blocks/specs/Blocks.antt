@@ -3,7 +3,7 @@
 use Prim.Native.Nat.{ℕ, _-_}
 use mathlib.Core.Bool.{Bool, true, false, not}
 use mathlib.Core.List.{List, [], _∷_}
-use lib.ListN.{length}
+use lib.ListN.{length, drop}
 use Rattle.basics.specs.Choice.{pick}
 use Rattle.blocks.specs.declared.OpenBlock.{OpenBlock}
 use Rattle.blocks.specs.declared.BlockLine.{BlockLine}
@@ -43,12 +43,10 @@ abbrev pub blocksAfter : BlockLine → List OpenBlock → List OpenBlock
 blocksAfter (Open first second) bs = openBlock first second false ∷ bs
 blocksAfter Else [] = []
 blocksAfter Else (b ∷ bs) = openBlock (b .first) (b .second) true ∷ bs
-blocksAfter EndIf [] = []
-blocksAfter EndIf (b ∷ bs) = bs
+blocksAfter EndIf bs = drop 1 bs
 
 -- and the numbers of the lines that opened them
 abbrev pub startsAfter : BlockLine → ℕ → List ℕ → List ℕ
 startsAfter (Open first second) number starts = number ∷ starts
 startsAfter Else number starts = starts
-startsAfter EndIf number [] = []
-startsAfter EndIf number (n ∷ starts) = starts
+startsAfter EndIf number starts = drop 1 starts

@@ -1,7 +1,7 @@
 // Open blocks: which half of each is taken, whether its `else` is past, and the line that opened it.
 ghost use mathlib.Core.Path.{_≡_};
 ghost use mathlib.Core.List.{_∷_};
-ghost use Prim.Native.Nat.{_-_, _<_, _≤_};
+ghost use Prim.Native.Nat.{ℕ, _-_, _<_, _≤_};
 ghost use Rattle.blocks.specs.Blocks.{depthLimit, isTaken, aroundOf, inert};
 ghost use Rattle.blocks.specs.Internal.{stack, noBlocks, blocksOf, startsOf, RoomFor, Changed};
 
@@ -128,10 +128,10 @@ fn opened(blocks: Blocks, first: bool, second: bool, number: usize) -> Blocks
     }
 }
 
-// The innermost block in its second half.
-fn turned(blocks: Blocks, number: usize) -> Blocks
+// The innermost block in its second half, whatever the line's number.
+fn turned(blocks: Blocks) -> Blocks
     requires { ⌜ blocks .depth ≤ depthLimit ⌝ }
-    ensures { λ r. ⌜ Changed blocks BlockLine.Else number r ⌝ }
+    ensures { λ r. ⌜ ((number : ℕ) → Changed blocks BlockLine.Else number r) ⌝ }
 {
     let depth = blocks.depth;
     if depth == 0 {
@@ -152,10 +152,10 @@ fn turned(blocks: Blocks, number: usize) -> Blocks
     }
 }
 
-// One block less.
-fn closed(blocks: Blocks, number: usize) -> Blocks
+// One block less, whatever the line's number.
+fn closed(blocks: Blocks) -> Blocks
     requires { ⌜ blocks .depth ≤ depthLimit ⌝ }
-    ensures { λ r. ⌜ Changed blocks BlockLine.EndIf number r ⌝ }
+    ensures { λ r. ⌜ ((number : ℕ) → Changed blocks BlockLine.EndIf number r) ⌝ }
 {
     let depth = blocks.depth;
     if depth == 0 {
@@ -176,8 +176,8 @@ pub fn blocks_after(blocks: Blocks, line: BlockLine, number: usize) -> Blocks
     ensures { λ r. ⌜ Changed blocks line number r ⌝ }
 {
     match line {
-        BlockLine::Else => turned(blocks, number),
-        BlockLine::EndIf => closed(blocks, number),
+        BlockLine::Else => turned(blocks),
+        BlockLine::EndIf => closed(blocks),
         BlockLine::Open { first, second } => opened(blocks, first, second, number),
     }
 }

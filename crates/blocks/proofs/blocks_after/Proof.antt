@@ -13,6 +13,6 @@ blocks-after-spec =
     (λ c κs. search needs)
     (λ c. search needs)
     (λ c κs. search room-told)
-    (λ c. search changed-as)
-    (λ c. search changed-as)
+    (λ c. search (changed-as, c .turned .ensures))
+    (λ c. search (changed-as, c .closed .ensures))
     (λ c. search changed-as))

@@ -7,6 +7,6 @@ pub closed-spec : {M : Type 1} → statement M
 closed-spec =
     tie.close
     (tie.spec
-    (λ c. search closed-none)
+    (λ c number. search closed-none)
     (λ c. search needs)
-    (λ c. search closed-changed))
+    (λ c number. search closed-changed))

@@ -8,11 +8,11 @@ pub turned-spec : {M : Type 1} → statement M
 turned-spec =
     tie.close
     (tie.spec
-    (λ c. search turned-none)
+    (λ c number. search turned-none)
     (λ c. search needs)
     (λ c. search needs)
     (λ c. search needs)
     (λ c. search needs)
     (λ c. search needs)
     (λ c. search needs)
-    (λ c. turned-changed _ _ (search needs) (search needs) (search (length-field, needs))))
+    (λ c number. turned-changed _ _ (search needs) (search needs) (search (length-field, needs))))
