@@ -26,7 +26,7 @@ isTaken b = pick (b .past) (b .second) (b .first)
 abbrev pub around : ℕ → Bool → Bool → Bool → Around
 around room taken turns closes = record { room = room; taken = taken; turns = turns; closes = closes }
 
--- by the open blocks, the innermost first. Whether a line is taken goes by the innermost alone: a block that opens in lines not taken
+-- by the open blocks, the innermost first. Whether a line is taken goes by the innermost alone, since a block that opens in lines not taken
 -- has no half that is
 unfoldable pub aroundOf : List OpenBlock → Around
 aroundOf [] = around depthLimit true false false

@@ -1,6 +1,7 @@
 -- What takes effect at a line: it is what the line gives, in range, and admitted, and a block had room; and what it leaves of the words and the state.
 use Prim.Native.Nat.{ℕ, _+_, _-_, _*_, _<_}
 use mathlib.Core.Path.{_≡_, refl, sym, _∙_}
+use mathlib.Core.Bool.{Bool, false}
 use mathlib.Core.List.{List}
 use native.Mathlib.Omega.{arith}
 use lib.ListN.{length, take}
@@ -13,6 +14,7 @@ use Rattle.blocks.specs.Internal.{blocksOf, RoomFor, Changed}
 use Rattle.blocks.specs.declared.OpenBlock.{OpenBlock}
 use Rattle.blocks.specs.declared.Blocks.{Blocks}
 use Rattle.blocks.specs.declared.BlockLine.{BlockLine}
+use Rattle.blocks.specs.declared.BlockLine.the-variants.{Open}
 use Rattle.blocks.specs.declared.Around.{Around}
 use Rattle.blocks.proofs.Stacks.{room-left}
 use Rattle.definitions.specs.declared.Definition.{Definition}
@@ -26,7 +28,7 @@ use Rattle.table.proofs.Written.{written-length, stored, store-fits, stored-mor
 use Rattle.reader.specs.Reader.{readLine}
 use Rattle.reader.specs.declared.Reading.{Reading}
 use Rattle.reader.specs.declared.Reading.the-variants.{Fault, NoEffect, Define, Block}
-use Rattle.reader.proofs.InRange.{line-in-range, line-had-room}
+use Rattle.reader.proofs.InRange.{line-in-range, line-had-room, line-no-half}
 use Rattle.compiler.specs.Compile.{judged, effectOf, lineEffect, SoFar, withEffect, step}
 use Rattle.compiler.specs.Internal.{Ready, goneOn, Leaves}
 use Rattle.compiler.specs.declared.State.{State}
@@ -56,10 +58,10 @@ module _ (ds : List Definition) (bs : List OpenBlock) (line : List ℕ) where
     pub effect-admitted : lineEffect ds bs line ≡ Define d left → verdictOf ds d ≡ Judged.Admitted
     effect-admitted e = effect-read e .1
 
-  -- a block that opens at a line had room
-  effect-had-room : {read : BlockLine} → lineEffect ds bs line ≡ Block read → RoomFor (aroundOf bs .room) read
+  -- what a line does to the open blocks: a block that opens had room and, where the line is not taken, no half that is
+  effect-block : {read : BlockLine} → lineEffect ds bs line ≡ Block read → readLine ds (aroundOf bs) line ≡ Block read
   unfolding lineEffect
-  effect-had-room {read} e = line-had-room ds (aroundOf bs) line (go (readLine ds (aroundOf bs) line) e)
+  effect-block {read} e = go (readLine ds (aroundOf bs) line) e
     where
       judge : (v : Verdict) (d : Definition) (left : ℕ) → judged v d left ≡ Block read → Define d left ≡ Block read
       judge Judged.Admitted d left e = e
@@ -70,6 +72,12 @@ module _ (ds : List Definition) (bs : List OpenBlock) (line : List ℕ) where
       go NoEffect e = cc
       go (Define d left) e = judge (verdictOf ds d) d left e
       go (Block other) e = e
+
+  effect-had-room : {read : BlockLine} → lineEffect ds bs line ≡ Block read → RoomFor (aroundOf bs .room) read
+  effect-had-room e = line-had-room ds (aroundOf bs) line (effect-block e)
+
+  pub effect-no-half : {first second : Bool} → aroundOf bs .taken ≡ false → lineEffect ds bs line ≡ Block (Open first second) → (first ≡ false) × (second ≡ false)
+  effect-no-half untaken e = line-no-half ds (aroundOf bs) line untaken (effect-block e)
 
 -- each way through the effect of a line as read: v is what a call answered of the verdict
 pub effect-as : (ds : List Definition) {reading k t : Reading} → reading ≡ k → t ≡ effectOf ds k → t ≡ effectOf ds reading

@@ -1,3 +1,4 @@
 pub mod Effects
 pub mod Texts
+pub mod Nesting
 pub mod Call

@@ -1,6 +1,6 @@
--- A definition that a line gives is in range, and a block that it opens had room.
+-- What a line gives: a definition is in range, and a block that opens had room and, where the line is not taken, no half that is.
 use Prim.Native.Nat.{ℕ, zero, suc, _-_, _<_}
-use mathlib.Core.Path.{_≡_}
+use mathlib.Core.Path.{_≡_, refl}
 use mathlib.Core.Bool.{Bool, true, false}
 use mathlib.Core.List.{List}
 use lib.ListN.{length, drop}
@@ -66,29 +66,48 @@ module _ {A : Type 0} (P : A → Type 0) (bad : Refusal → ℕ → A) (fault : 
       go (C.Fault refusal left) r = fault refusal left
       go (C.Value cell after) r = h cell after r
 
+-- what holds of faults and of an answer holds of it before the line's end; and what holds of all that a line may be holds of the line
+module _ (P : Reading → Type 0) (fault : (refusal : Refusal) (left : ℕ) → P (Fault refusal left)) (line : List ℕ) where
+  each-finished : (at : ℕ) (reading : Reading) → P reading → P (finished line at reading)
+  unfolding finished
+  each-finished at reading h = by-test P (isOver line at) (λ e. h) (λ e. fault _ _)
+
+  each-block : (may : Bool) (read : BlockLine) (at left : ℕ) → P (Block read) → P (blockLine may read line at left)
+  unfolding blockLine
+  each-block may read at left h = by-test P may (λ e. each-finished at (Block read) h) (λ e. fault _ _)
+
+  each-line : (ds : List Definition) (around : Around) → P NoEffect → P (Block Else) → P (Block EndIf) → P (ifHolds (around .taken) (readFrom ds (around .room) line))
+      → P (readLine ds around line)
+  unfolding readLine readFirst
+  each-line ds around skipped turned closed other = go (openingOf line)
+    where
+      go : (o : Opening) → P (ifDirective o Fault NoEffect (readFirst ds around line))
+      go (Op.Fault refusal left) = fault refusal left
+      go Op.Skip = skipped
+      go Op.Directive =
+          let w = wordAt line 0 in
+          by-test P (sameBytes (bytesOf line w) (ascii "else")) (λ e. each-block (around .turns) Else _ _ turned)
+          (λ e. by-test P (sameBytes (bytesOf line w) (ascii "endIf")) (λ e. each-block (around .closes) EndIf _ _ closed) (λ e. other))
+
 -- dots of either kind
 dots-meaning : (typed : Bool) (cell : ℕ) → cell < 256 → isNumberInRange (pick typed (M.Typed cell) (M.Shown cell)) ≡ true
 dots-meaning true cell l = le-leb cell 255 (omega arith)
 dots-meaning false cell l = le-leb cell 255 (omega arith)
 
 module _ (room : ℕ) where
-  finished-in-range : (line : List ℕ) (at : ℕ) (reading : Reading) → ReadingInRange room reading → ReadingInRange room (finished line at reading)
-  unfolding finished
-  finished-in-range line at reading h = by-test (ReadingInRange room) (isOver line at) (λ e. h) (λ e. tt)
-
   dots-line : (byte typed : Bool) (line : List ℕ) (at left : ℕ) → ReadingInRange room (dotsLine byte typed line at left)
   unfolding dotsLine
   dots-line byte typed line at left =
       each-value (ReadingInRange room) Fault (λ refusal left. tt) byte line at _
       (λ c after h. each-dots (ReadingInRange room) Fault (λ refusal left. tt) true line after _
-      (λ cell end l. finished-in-range line end _ (record { character = h; number = dots-meaning typed cell l })))
+      (λ cell end l. each-finished (ReadingInRange room) (λ refusal left. tt) line end _ (record { character = h; number = dots-meaning typed cell l })))
 
   alias-line : (line : List ℕ) (at left : ℕ) → ReadingInRange room (aliasLine line at left)
   unfolding aliasLine
   alias-line line at left =
       each-value (ReadingInRange room) Fault (λ refusal left. tt) false line at _
       (λ c after h. each-value (ReadingInRange room) Fault (λ refusal left. tt) false line after _
-      (λ target end g. finished-in-range line end _ (record { character = h; number = g })))
+      (λ target end g. each-finished (ReadingInRange room) (λ refusal left. tt) line end _ (record { character = h; number = g })))
 
   -- a condition gives no definition, and is read only where there is room
   module _ (some : 0 < room) (line : List ℕ) where
@@ -155,27 +174,28 @@ from-in-range ds (suc room) line =
     let r : Reading = readFrom ds room (drop rest line) in
     holds-in-range (suc room) holds r (more-room room r (from-in-range ds room (drop rest line))))
 
+-- a line not taken opens a block without a half that is
+abbrev NoHalf : Reading → Type 0
+NoHalf (Fault refusal left) = Unit
+NoHalf NoEffect = Unit
+NoHalf (Define d left) = Unit
+NoHalf (Block (Open first second)) = (first ≡ false) × (second ≡ false)
+NoHalf (Block Else) = Unit
+NoHalf (Block EndIf) = Unit
+
+without-half : (r : Reading) → NoHalf (withoutEffect r)
+without-half (Fault refusal left) = tt
+without-half NoEffect = tt
+without-half (Define d left) = tt
+without-half (Block (Open first second)) = (refl, refl)
+without-half (Block Else) = tt
+without-half (Block EndIf) = tt
+
 module _ (ds : List Definition) (around : Around) (line : List ℕ) where
-  block-in-range : (may : Bool) (read : BlockLine) (at left : ℕ) → RoomFor (around .room) read → ReadingInRange (around .room) (blockLine may read line at left)
-  unfolding blockLine
-  block-in-range may read at left h = by-test (ReadingInRange (around .room)) may (λ e. finished-in-range (around .room) line at (Block read) h) (λ e. tt)
-
-  first-in-range : ReadingInRange (around .room) (readFirst ds around line)
-  unfolding readFirst
-  first-in-range =
-      let w = wordAt line 0 in
-      by-test (ReadingInRange (around .room)) (sameBytes (bytesOf line w) (ascii "else")) (λ e. block-in-range (around .turns) Else _ _ tt)
-      (λ e. by-test (ReadingInRange (around .room)) (sameBytes (bytesOf line w) (ascii "endIf")) (λ e. block-in-range (around .closes) EndIf _ _ tt)
-      (λ e. holds-in-range (around .room) (around .taken) (readFrom ds (around .room) line) (from-in-range ds (around .room) line)))
-
   read-in-range : ReadingInRange (around .room) (readLine ds around line)
-  unfolding readLine
-  read-in-range = go (openingOf line)
-    where
-      go : (o : Opening) → ReadingInRange (around .room) (ifDirective o Fault NoEffect (readFirst ds around line))
-      go (Op.Fault refusal left) = tt
-      go Op.Skip = tt
-      go Op.Directive = first-in-range
+  read-in-range =
+      each-line (ReadingInRange (around .room)) (λ refusal left. tt) line ds around tt tt tt
+      (holds-in-range (around .room) (around .taken) (readFrom ds (around .room) line) (from-in-range ds (around .room) line))
 
   -- the definition that a line gives is in range
   pub line-in-range : {d : Definition} {left : ℕ} → readLine ds around line ≡ Define d left → InRange d
@@ -184,3 +204,8 @@ module _ (ds : List Definition) (around : Around) (line : List ℕ) where
   -- a block that a line opens had room
   pub line-had-room : {read : BlockLine} → readLine ds around line ≡ Block read → RoomFor (around .room) read
   line-had-room e = rw e at read-in-range
+
+  -- and, where the line is not taken, no half that is
+  pub line-no-half : {first second : Bool} → around .taken ≡ false → readLine ds around line ≡ Block (Open first second) → (first ≡ false) × (second ≡ false)
+  unfolding ifHolds
+  line-no-half untaken e = rw e at (each-line NoHalf (λ refusal left. tt) line ds around tt tt tt (rw untaken (without-half (readFrom ds (around .room) line))))
