@@ -56,6 +56,16 @@ either P b p q = by-test P b (λ e. p) (λ e. q)
 pub same-twice : {A : Type 0} (b : Bool) (a : A) → pick b a a ≡ a
 same-twice b a = either (λ x. x ≡ a) b refl refl
 
+-- r is what a call answered of the first of two tests
+module _ (r s t v : Bool) (e : r ≡ s) where
+  pub and-holds : r ≡ true → v ≡ t → v ≡ (s && t)
+  and-holds q h = rw (← e, q) h
+
+  pub and-fails : r ≡ false → v ≡ false → v ≡ (s && t)
+  and-fails q h = rw (← e, q) h
+
+pub ruleset on-both = (and-holds, and-fails)
+
 -- both halves of a test that holds
 pub both : (s t : Bool) → (s && t) ≡ true → (s ≡ true) × (t ≡ true)
 both true t q = (refl, q)

@@ -22,6 +22,7 @@ pub enum Refusal {
     BadState,
     StrayBlockWord,
     UnclosedBlock,
+    BeyondPage,
 }
 
 // A character, where there is one: a base character, a stand-in, an alias target, what a cell types.
@@ -66,5 +67,6 @@ pub fn number_of(refusal: Refusal) -> u8
         Refusal::BadState => 16,
         Refusal::StrayBlockWord => 17,
         Refusal::UnclosedBlock => 18,
+        Refusal::BeyondPage => 19,
     }
 }

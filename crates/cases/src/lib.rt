@@ -24,13 +24,30 @@ fn page_answer(words: &[u32], question: &[u8]) -> Text {
     replies::page_text(words, &numbers[0..n])
 }
 
-// A question to a table: a lookup, what a cell types, or a page.
+// A page as above, then two numbers a window behind a slash.
+fn windows_answer(words: &[u32], question: &[u8]) -> Text {
+    let mut numbers = [0u32; 18];
+    let n = fields::put_numbers(&mut numbers, fields::first(question, b'/'));
+    let mut pairs = [0u32; 12];
+    let k = fields::put_numbers(&mut pairs, fields::rest(question, b'/'));
+    if 18 < n {
+        return answers::empty();
+    }
+    if 12 < k {
+        return answers::empty();
+    }
+    let windows = fields::windows_of(pairs);
+    replies::windows_text(words, &numbers[0..n], &windows[0..k])
+}
+
+// A question to a table: a lookup, what a cell types, a page, or a page by windows.
 fn table_answer(call: usize, words: &[u32], question: &[u8]) -> Text {
     let n = fields::number(question);
     match call {
         0 => replies::look_text(words, n),
         1 => replies::type_text(words, (n % 256) as u8),
-        _ => page_answer(words, question),
+        2 => page_answer(words, question),
+        _ => windows_answer(words, question),
     }
 }
 
@@ -95,7 +112,8 @@ fn refusal_of(number: u32) -> Refusal {
         15 => Refusal::NotTable,
         16 => Refusal::BadState,
         17 => Refusal::StrayBlockWord,
-        _ => Refusal::UnclosedBlock,
+        18 => Refusal::UnclosedBlock,
+        _ => Refusal::BeyondPage,
     }
 }
 
@@ -103,43 +121,45 @@ fn report_case(number: u32, line: u32) -> Text {
     replies::compile_text(Compiled::Refused(refusal_of(number), line as usize))
 }
 
-// The answer to a case by its fields. The kinds that ask a table stand in threes, in the order of `table_answer`.
+// The answer to a case by its fields. The kinds that ask a table stand in fours, in the order of `table_answer`.
 fn answer_to(name: &[u8], text: &[u8], question: &[u8]) -> Text {
     let n = fields::number(question);
     let kind = fields::place_of(
         name,
-        b"show type page lent lent_type lent_page short short_type short_page \
-        beyond beyond_type beyond_page compile left attributes dots report",
+        b"show type page windows lent lent_type lent_page lent_windows \
+        short short_type short_page short_windows beyond beyond_type beyond_page beyond_windows \
+        compile left attributes dots report",
     );
-    let call = kind % 3;
+    let call = kind % 4;
     match kind {
-        0 | 1 | 2 => table_case(call, text, question),
-        3 | 4 | 5 => lent_case(TABLE_WORDS, call, text, question),
-        6 | 7 | 8 => lent_case(TABLE_WORDS - 1, call, text, question),
-        9 | 10 | 11 => lent_case(WORDS, call, text, question),
-        12 => compile_case(text),
-        13 => left_case(text, n),
-        14 => attributes_case(text),
-        15 => dots_case(text, n),
-        16 => report_case(fields::number(text), n),
+        0 | 1 | 2 | 3 => table_case(call, text, question),
+        4 | 5 | 6 | 7 => lent_case(TABLE_WORDS, call, text, question),
+        8 | 9 | 10 | 11 => lent_case(TABLE_WORDS - 1, call, text, question),
+        12 | 13 | 14 | 15 => lent_case(WORDS, call, text, question),
+        16 => compile_case(text),
+        17 => left_case(text, n),
+        18 => attributes_case(text),
+        19 => dots_case(text, n),
+        20 => report_case(fields::number(text), n),
         _ => answers::text_of(b"unknown kind"),
     }
 }
 
 // The answer to a case.
 pub fn answer(line: &[u8]) -> Text {
-    let behind = fields::rest(line);
+    let behind = fields::rest(line, b'|');
     // One byte more than a text may have.
     let mut text = [0u8; TEXT_LIMIT + 1];
-    let n = fields::decode(fields::first(behind), &mut text);
+    let n = fields::decode(fields::first(behind, b'|'), &mut text);
     answer_to(
-        fields::first(line),
+        fields::first(line, b'|'),
         &text[0..n],
-        fields::first(fields::rest(behind)),
+        fields::first(fields::rest(behind, b'|'), b'|'),
     )
 }
 
 // The answer that a case expects.
 pub fn expected(line: &[u8]) -> &[u8] {
-    fields::first(fields::rest(fields::rest(fields::rest(line))))
+    let behind = fields::rest(fields::rest(line, b'|'), b'|');
+    fields::first(fields::rest(behind, b'|'), b'|')
 }

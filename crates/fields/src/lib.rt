@@ -1,4 +1,4 @@
-// The fields of a case, which `|` separates, and what they stand for: a text, a number, or words of a table.
+// The fields of a case, which a mark separates, and what they stand for: a text, a number, words of a table, windows.
 ghost use Prim.Native.Nat.{_≤_, _<_};
 ghost use lib.ListN.{length};
 
@@ -17,13 +17,13 @@ struct Piece {
     more: usize,
 }
 
-fn first_field(line: &[u8]) -> Field
+fn first_field(line: &[u8], mark: u8) -> Field
     ensures { λ r. ⌜ (r .end ≤ length (now (line .entry))) × (r .next ≤ length (now (line .entry))) ⌝ }
 {
     let mut end = 0;
     let mut i = 0;
     while i < line.len() {
-        if line[i] == b'|' {
+        if line[i] == mark {
             return Field { end, next: i + 1 };
         }
         if !lines::is_blank(line[i]) {
@@ -35,8 +35,8 @@ fn first_field(line: &[u8]) -> Field
 }
 
 // The first field, without the blanks at both ends.
-pub fn first(line: &[u8]) -> &[u8] {
-    let f = first_field(line);
+pub fn first(line: &[u8], mark: u8) -> &[u8] {
+    let f = first_field(line, mark);
     let end = f.end;
     let part = &line[0..end];
     let w = lines::next_word(part, 0);
@@ -45,8 +45,8 @@ pub fn first(line: &[u8]) -> &[u8] {
 }
 
 // The fields behind the first.
-pub fn rest(line: &[u8]) -> &[u8] {
-    let f = first_field(line);
+pub fn rest(line: &[u8], mark: u8) -> &[u8] {
+    let f = first_field(line, mark);
     let next = f.next;
     &line[next..]
 }
@@ -234,4 +234,23 @@ pub fn put_numbers(out: &mut [u32], field: &[u8]) -> usize {
         at = end;
     }
     index
+}
+
+// A start or a width: a number from 2^31 on stands for the one that is as far below 2^64 as it is below 2^32.
+fn window_number(n: u32) -> usize {
+    if n < 0x8000_0000 {
+        return n as usize;
+    }
+    0xFFFF_FFFF_0000_0000 + n as usize
+}
+
+// The starts and widths of windows.
+pub fn windows_of(numbers: [u32; 12]) -> [usize; 12] {
+    let mut windows = [0usize; 12];
+    let mut i = 0;
+    while i < 12 {
+        windows[i] = window_number(numbers[i]);
+        i += 1;
+    }
+    windows
 }

@@ -7,14 +7,16 @@ use lines::Compiled;
 use lookup::Answer;
 use lookup::Looked;
 use typing::Entry;
+use windows::Window;
 ghost use mathlib.Core.Path.{_≡_};
 ghost use mathlib.Core.List.{map};
 ghost use Prim.Native.Nat.{_≤_};
 ghost use lib.ListN.{length};
-ghost use Rattle.basics.specs.Refusals.{numberOf};
+ghost use Rattle.basics.specs.Refusals.{numberOf, fillingReply};
 ghost use Rattle.definitions.specs.Effects.{definitionLimit};
 ghost use Rattle.compiler.specs.Compile.{compileReply, compileWords};
 ghost use Rattle.lookup.specs.Calls.{lookupReply, pagePlan, over, Pages};
+ghost use Rattle.windows.specs.Windows.{PagesWindows};
 ghost use Rattle.heathdapple.specs.Codes.{refusalCode, compileCode, answerCode, lookupCode, fillingCode, characterCode, typedCode, attributeCode, cellCount, entriesReply, entryCode, entriesAfter, cellsReply, cellsOf, cellsAfter};
 ghost use Rattle.heathdapple.specs.Internal.{EntriesFit};
 
@@ -60,6 +62,16 @@ pub extern "C" fn heathdapple_look_up(words: &[u32], character: u32) -> u64
     }
 }
 
+// What a call that fills answers, as one number.
+fn filling_code(answer: Filling) -> u64
+    ensures { λ r. ⌜ r ≡ fillingCode (fillingReply answer) ⌝ }
+{
+    match answer {
+        Filling::Filled => 0,
+        Filling::Refused(refusal, place) => refusal_code(refusal, place),
+    }
+}
+
 // Fills the cells and rules of a page: 0, or the refusal with its place.
 #[no_mangle]
 pub extern "C" fn heathdapple_page(
@@ -70,10 +82,22 @@ pub extern "C" fn heathdapple_page(
 ) -> u64
     ensures { λ r. ⌜ Pages fillingCode (pagePlan (now (words .entry)) (now (characters .entry)) (length (now (cells .entry))) (length (now (rules .entry)))) (now (characters .entry)) (now (cells .entry)) (now (rules .entry)) r (now (cells .exit)) (now (rules .exit)) ⌝ }
 {
-    match lookup::page(words, characters, cells, rules) {
-        Filling::Filled => 0,
-        Filling::Refused(refusal, place) => refusal_code(refusal, place),
-    }
+    filling_code(lookup::page(words, characters, cells, rules))
+}
+
+// Fills the cells and rules of windows of a page, one after another: 0, or the refusal with its place.
+#[no_mangle]
+pub extern "C" fn heathdapple_windows(
+    words: &[u32],
+    characters: &[u32],
+    windows: &[Window],
+    cells: &mut [u8],
+    rules: &mut [u8],
+) -> u64
+    ensures { λ r. ⌜ PagesWindows fillingCode (now (windows .entry)) (now (words .entry)) (now (characters .entry)) (now (cells .entry)) (now (rules .entry)) r (now (cells .exit)) (now (rules .exit)) ⌝ }
+{
+    let done = windows::show(windows, words, characters, cells, rules);
+    filling_code(done)
 }
 
 // What an entry types, as one number.

@@ -1,6 +1,6 @@
 -- What the lookup call and the page call answer and write, as their tests and calls decide it.
 use Prim.Native.Nat.{ℕ, _+_, _≤_, _<_}
-use mathlib.Core.Path.{_≡_, refl, sym, _∙_}
+use mathlib.Core.Path.{_≡_, refl, sym, ap, _∙_}
 use mathlib.Core.Bool.{Bool, true, false, not}
 use mathlib.Core.List.{List, map}
 use native.Mathlib.Numerals.{add-one}
@@ -14,14 +14,16 @@ use Rattle.definitions.specs.declared.Definition.{Definition}
 use Rattle.definitions.specs.Definitions.{table}
 use Rattle.table.specs.declared.Checked.{Checked}
 use Rattle.table.specs.declared.Checked.the-variants.{Sound, FaultAt}
-use Rattle.table.specs.Words.{tableWords, definitions}
+use Rattle.table.specs.Words.{tableWords, definitions, tableOf}
 use Rattle.table.specs.Check.{checkOf, lentTable}
 use Rattle.table.proofs.Lent.{lent-fault, lent-sound}
 use Rattle.lookup.specs.declared.Answer.{Answer}
+use Rattle.lookup.specs.declared.LastCells.{LastCells}
 use Rattle.lookup.specs.declared.NoScalar.{NoScalar}
 use Rattle.lookup.specs.declared.NoScalar.the-variants.{Nowhere, At}
-use Rattle.lookup.specs.Rules.{lookup}
+use Rattle.lookup.specs.Rules.{candidates, rulesFrom3, lookup}
 use Rattle.lookup.specs.Calls.{lookupReply, firstNoScalar, unlessAt, pagePlan, over, Pages}
+use Rattle.lookup.specs.Internal.{lastCells, lookupBy}
 
 -- ---- the lookup call
 
@@ -85,10 +87,16 @@ module _ (ws cs cells rules : List ℕ) where
       pub page-no-scalar : {i : ℕ} → s ≡ At i → Settles (refused 14 i) cells rules
       page-no-scalar e = page-refused (planned ∙ rw (lent-sound ws n long p q, ← from, e))
 
-      pub page-filled : {new-cells new-rules : List ℕ} → s ≡ Nowhere
-          → new-cells ≡ over (map (λ (c : ℕ). lookup (table (definitions n ws)) c .cell) cs) cells
-          → new-rules ≡ over (map (λ (c : ℕ). lookup (table (definitions n ws)) c .rule) cs) rules
+      pub page-filled : {last : LastCells} {new-cells new-rules : List ℕ} → s ≡ Nowhere → last ≡ lastCells (tableOf n ws)
+          → new-cells ≡ over (map (λ (c : ℕ). lookupBy (tableOf n ws) last c .cell) cs) cells
+          → new-rules ≡ over (map (λ (c : ℕ). lookupBy (tableOf n ws) last c .rule) cs) rules
           → Settles (answered tt) new-cells new-rules
-      page-filled e to-cells to-rules =
+      unfolding lookup rulesFrom3 candidates
+      page-filled e own to-cells to-rules =
           let all : plan ≡ answered (definitions n ws) = planned ∙ rw (lent-sound ws n long p q, ← from, e) in
-          rw (to-cells, to-rules, all) (record { answer = refl; cells = refl; rules = refl })
+          rw (to-cells, to-rules, all, own) (record { answer = refl; cells = refl; rules = refl })
+
+-- its answer given otherwise: told is what the call answers, and v is how it is given
+pub pages-given : {A : Type 0} (given : Reply (Unit {0}) → A) {plan : Reply (List Definition)} {cs cells rules new-cells new-rules : List ℕ} {told : Reply (Unit {0})} {v : A}
+    → Pages (λ reply. reply) plan cs cells rules told new-cells new-rules → v ≡ given told → Pages given plan cs cells rules v new-cells new-rules
+pages-given given p e = record { answer = e ∙ ap given (p .answer); cells = p .cells; rules = p .rules }

@@ -12,9 +12,9 @@ ghost use lib.ListN.{length};
 ghost use Rattle.basics.specs.Refusals.{fillingReply};
 ghost use Rattle.table.specs.Words.{tableOf};
 ghost use Rattle.table.specs.Check.{lentTable};
-ghost use Rattle.lookup.specs.Rules.{explicitOf, choose, rulesFrom3, lookup};
+ghost use Rattle.lookup.specs.Rules.{explicitOf, choose};
 ghost use Rattle.lookup.specs.Calls.{lookupReply, lookedReply, LentLinks, firstNoScalar, pagePlan, over, Pages};
-ghost use Rattle.lookup.specs.Internal.{lastAnswer, laterCandidates};
+ghost use Rattle.lookup.specs.Internal.{lastCells, lastCandidates, laterCandidates, rulesBy, lookupBy};
 
 // A cell, the number of the rule that gave it, and the length of the alias walk.
 pub struct Answer {
@@ -27,6 +27,12 @@ pub struct Answer {
 pub enum Looked {
     Answered(Answer),
     Refused(Refusal, usize),
+}
+
+// The explicit cells of U+FFFD and of the question mark, by which rules 7 and 8 answer for every character alike.
+pub struct LastCells {
+    pub replacement: Cell,
+    pub question: Cell,
 }
 
 // The first character of a page that is no scalar value.
@@ -46,36 +52,50 @@ fn explicit_of(words: &[u32], count: usize, other: Maybe) -> Cell
     }
 }
 
-// Rules 7 to 9, which go by no character: asked once for all of a page.
-fn last_rules(words: &[u32], count: usize) -> Answer
+// The cells of rules 7 and 8: asked once for all characters of a call.
+pub fn last_cells(words: &[u32], count: usize) -> LastCells
     requires { ⌜ 2 * count ≤ length (now words) ⌝ }
-    ensures { λ r. ⌜ r ≡ lastAnswer (tableOf count (now (words .entry))) ⌝ }
+    ensures { λ r. ⌜ r ≡ lastCells (tableOf count (now (words .entry))) ⌝ }
 {
-    if let Cell::Dots(cell) = table::explicit_cell(words, count, 0xFFFD) {
+    let replacement = table::explicit_cell(words, count, 0xFFFD);
+    let question = table::explicit_cell(words, count, 0x3F);
+    LastCells {
+        replacement,
+        question,
+    }
+}
+
+// Rules 7 to 9.
+fn last_rules(last: LastCells, links: usize) -> Answer
+    ensures { λ r. ⌜ r ≡ choose 7 (lastCandidates last) links ⌝ }
+{
+    let replacement = last.replacement;
+    let question = last.question;
+    if let Cell::Dots(cell) = replacement {
         return Answer {
             cell,
             rule: 7,
-            links: 0,
+            links,
         };
     }
-    if let Cell::Dots(cell) = table::explicit_cell(words, count, 0x3F) {
+    if let Cell::Dots(cell) = question {
         return Answer {
             cell,
             rule: 8,
-            links: 0,
+            links,
         };
     }
     Answer {
         cell: 255,
         rule: 9,
-        links: 0,
+        links,
     }
 }
 
-// Rules 5 to 9; `last` is what rules 7 to 9 answer.
-fn later_rules(words: &[u32], count: usize, c: u32, links: usize, last: Answer) -> Answer
-    requires { ⌜ (2 * count ≤ length (now words)) × (last ≡ lastAnswer (tableOf count (now words))) ⌝ }
-    ensures { λ r. ⌜ r ≡ choose 5 (laterCandidates (tableOf count (now (words .entry))) c) links ⌝ }
+// Rules 5 to 9.
+fn later_rules(words: &[u32], count: usize, last: LastCells, c: u32, links: usize) -> Answer
+    requires { ⌜ 2 * count ≤ length (now words) ⌝ }
+    ensures { λ r. ⌜ r ≡ choose 5 (laterCandidates (tableOf count (now (words .entry))) last c) links ⌝ }
 {
     match explicit_of(words, count, unicode::base_of(c)) {
         Cell::Dots(cell) => Answer {
@@ -89,25 +109,21 @@ fn later_rules(words: &[u32], count: usize, c: u32, links: usize, last: Answer) 
                 rule: 6,
                 links,
             },
-            Cell::Absent => Answer {
-                cell: last.cell,
-                rule: last.rule,
-                links,
-            },
+            Cell::Absent => last_rules(last, links),
         },
     }
 }
 
 // Rules 3 to 9, for a character as it stands after rule 2.
-fn rules_from_3(words: &[u32], count: usize, c: u32, last: Answer) -> Answer
-    requires { ⌜ (2 * count ≤ length (now words)) × (last ≡ lastAnswer (tableOf count (now words))) ⌝ }
-    ensures { λ r. ⌜ r ≡ rulesFrom3 (tableOf count (now (words .entry))) c ⌝ }
+fn rules_from_3(words: &[u32], count: usize, last: LastCells, c: u32) -> Answer
+    requires { ⌜ 2 * count ≤ length (now words) ⌝ }
+    ensures { λ r. ⌜ r ≡ rulesBy (tableOf count (now (words .entry))) last c ⌝ }
 {
     let w = table::walk_from(words, count, c);
     let links = w.links;
     let end = w.cell;
     match end {
-        Cell::Absent => later_rules(words, count, c, links, last),
+        Cell::Absent => later_rules(words, count, last, c, links),
         Cell::Dots(cell) => {
             if links == 0 {
                 return Answer {
@@ -126,9 +142,9 @@ fn rules_from_3(words: &[u32], count: usize, c: u32, last: Answer) -> Answer
 }
 
 // The answer for a scalar value, by all the rules.
-fn answer_of(words: &[u32], count: usize, c: u32, last: Answer) -> Answer
-    requires { ⌜ (2 * count ≤ length (now words)) × (last ≡ lastAnswer (tableOf count (now words))) ⌝ }
-    ensures { λ r. ⌜ r ≡ lookup (tableOf count (now (words .entry))) c ⌝ }
+fn answer_of(words: &[u32], count: usize, last: LastCells, c: u32) -> Answer
+    requires { ⌜ 2 * count ≤ length (now words) ⌝ }
+    ensures { λ r. ⌜ r ≡ lookupBy (tableOf count (now (words .entry))) last c ⌝ }
 {
     if unicode::is_braille(c) {
         return Answer {
@@ -137,7 +153,7 @@ fn answer_of(words: &[u32], count: usize, c: u32, last: Answer) -> Answer
             links: 0,
         };
     }
-    let a = rules_from_3(words, count, unicode::local_of(c), last);
+    let a = rules_from_3(words, count, last, unicode::local_of(c));
     if unicode::is_private(c) {
         return Answer {
             cell: a.cell,
@@ -160,8 +176,8 @@ pub fn look_up(words: &[u32], c: u32) -> Looked
         Checked::FaultAt(pair) => Looked::Refused(Refusal::NotTable, pair),
         Checked::Sound(count) => {
             if unicode::is_scalar(c) {
-                let last = last_rules(words, count);
-                return Looked::Answered(answer_of(words, count, c, last));
+                let last = last_cells(words, count);
+                return Looked::Answered(answer_of(words, count, last, c));
             }
             Looked::Refused(Refusal::NotScalar, 0)
         }
@@ -169,7 +185,7 @@ pub fn look_up(words: &[u32], c: u32) -> Looked
 }
 
 // The first character that is no scalar value.
-fn first_no_scalar(characters: &[u32]) -> NoScalar
+pub fn first_no_scalar(characters: &[u32]) -> NoScalar
     ensures { λ r. ⌜ r ≡ firstNoScalar (now (characters .entry)) 0 ⌝ }
 {
     let mut i = 0;
@@ -183,15 +199,21 @@ fn first_no_scalar(characters: &[u32]) -> NoScalar
 }
 
 // Fills both buffers, a cell and a rule for each character.
-fn fill(words: &[u32], count: usize, characters: &[u32], cells: &mut [u8], rules: &mut [u8])
+pub fn fill(
+    words: &[u32],
+    count: usize,
+    last: LastCells,
+    characters: &[u32],
+    cells: &mut [u8],
+    rules: &mut [u8],
+)
     requires { ⌜ (2 * count ≤ length (now words)) × (length (now characters) ≤ length (now cells)) × (length (now characters) ≤ length (now rules)) ⌝ }
-    ensures cells { λ r. ⌜ now (cells .exit) ≡ over (map (λ c. lookup (tableOf count (now (words .entry))) c .cell) (now (characters .entry))) (now (cells .entry)) ⌝ }
-    ensures rules { λ r. ⌜ now (rules .exit) ≡ over (map (λ c. lookup (tableOf count (now (words .entry))) c .rule) (now (characters .entry))) (now (rules .entry)) ⌝ }
+    ensures cells { λ r. ⌜ now (cells .exit) ≡ over (map (λ c. lookupBy (tableOf count (now (words .entry))) last c .cell) (now (characters .entry))) (now (cells .entry)) ⌝ }
+    ensures rules { λ r. ⌜ now (rules .exit) ≡ over (map (λ c. lookupBy (tableOf count (now (words .entry))) last c .rule) (now (characters .entry))) (now (rules .entry)) ⌝ }
 {
-    let last = last_rules(words, count);
     let mut i = 0;
     while i < characters.len() {
-        let a = answer_of(words, count, characters[i], last);
+        let a = answer_of(words, count, last, characters[i]);
         cells[i] = a.cell;
         rules[i] = a.rule;
         i += 1;
@@ -216,7 +238,8 @@ pub fn page(words: &[u32], characters: &[u32], cells: &mut [u8], rules: &mut [u8
         Checked::Sound(count) => match first_no_scalar(characters) {
             NoScalar::At(i) => Filling::Refused(Refusal::NotScalar, i),
             NoScalar::Nowhere => {
-                fill(words, count, characters, cells, rules);
+                let last = last_cells(words, count);
+                fill(words, count, last, characters, cells, rules);
                 Filling::Filled
             }
         },

@@ -59,11 +59,26 @@ pub fn type_text(words: &[u32], cell: u8) -> Text {
     filling_text(answer, entry_text(types))
 }
 
-// What the page call answers, and what it leaves in both buffers.
-fn buffers_text(words: &[u32], characters: &[u32], cells: &mut [u8], rules: &mut [u8]) -> Text {
-    let answer = lookup::page(words, characters, cells, rules);
+// What a page call answers, and what it leaves in both buffers.
+fn buffers_text(answer: Filling, cells: &[u8], rules: &[u8]) -> Text {
     let front = answers::push_cells(filling_text(answer, answers::text_of(b"filled")), cells);
     answers::push_cells(answers::push_bytes(front, b" /"), rules)
+}
+
+fn whole_text(words: &[u32], page: &[u32], cells: &mut [u8], rules: &mut [u8]) -> Text {
+    let answer = lookup::page(words, page, cells, rules);
+    buffers_text(answer, cells, rules)
+}
+
+fn parts_text(
+    windows: &[usize],
+    words: &[u32],
+    page: &[u32],
+    cells: &mut [u8],
+    rules: &mut [u8],
+) -> Text {
+    let answer = windows::show_numbers(windows, words, page, cells, rules);
+    buffers_text(answer, cells, rules)
 }
 
 // The page call by numbers: the lengths of both buffers, 16 at most, then the characters.
@@ -75,7 +90,25 @@ pub fn page_text(words: &[u32], numbers: &[u32]) -> Text {
     let mut rules = [0xEEu8; 16];
     let width = (numbers[0] % 17) as usize;
     let height = (numbers[1] % 17) as usize;
-    buffers_text(
+    whole_text(
+        words,
+        &numbers[2..],
+        &mut cells[0..width],
+        &mut rules[0..height],
+    )
+}
+
+// The page call for many windows, two numbers each, by the same numbers.
+pub fn windows_text(words: &[u32], numbers: &[u32], windows: &[usize]) -> Text {
+    if numbers.len() < 2 {
+        return answers::empty();
+    }
+    let mut cells = [0xEEu8; 16];
+    let mut rules = [0xEEu8; 16];
+    let width = (numbers[0] % 17) as usize;
+    let height = (numbers[1] % 17) as usize;
+    parts_text(
+        windows,
         words,
         &numbers[2..],
         &mut cells[0..width],

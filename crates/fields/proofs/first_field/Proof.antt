@@ -7,10 +7,10 @@ use Rattle.fields.proofs.first_field.Tie as tie
 
 -- the end and the index are within the line
 abbrev Inv-loop : tie.InvT-loop
-Inv-loop line end₀ i₀ end i = (end ≤ length line) × (i ≤ length line)
+Inv-loop line mark end₀ i₀ end i = (end ≤ length line) × (i ≤ length line)
 
 abbrev μ-loop : tie.MeasureT-loop
-μ-loop line end₀ i₀ end i = length line - i
+μ-loop line mark end₀ i₀ end i = length line - i
 
 pub first-field-spec : {M : Type 1} → statement M
 first-field-spec =

@@ -1,12 +1,10 @@
 use borrow.Author.Needs.{needs}
 use Rattle.basics.proofs.Tests.{chosen}
-use Rattle.lookup.specs.Rules.{lookup}
 use Rattle.lookup.proofs.Choices.{rule-fits, rule-passed, rule-others}
 use Rattle.lookup.proofs.answer_of.Statement.{statement}
 use Rattle.lookup.proofs.answer_of.Tie as tie
 
 pub answer-of-spec : {M : Type 1} → statement M
-unfolding lookup
 answer-of-spec =
     tie.close
     (tie.spec

@@ -2,9 +2,8 @@ use borrow.Author.Needs.{needs}
 use Prim.Native.Nat.{ℕ, _≤_, _-_}
 use mathlib.Core.Path.{_≡_, refl}
 use lib.ListN.{length}
-use Rattle.definitions.specs.Definitions.{table}
-use Rattle.table.specs.Words.{definitions}
-use Rattle.lookup.specs.Rules.{lookup}
+use Rattle.table.specs.Words.{tableOf}
+use Rattle.lookup.specs.Internal.{lookupBy}
 use Rattle.lookup.proofs.Buffers.{filledTo, filled-more, filled-all}
 use Rattle.lookup.proofs.Replies.{same-cell, same-rule}
 use Rattle.lookup.proofs.fill.Statement.{statement}
@@ -12,13 +11,13 @@ use Rattle.lookup.proofs.fill.Tie as tie
 
 -- each buffer is filled up to i, and keeps its length
 abbrev Inv-loop : tie.InvT-loop
-Inv-loop words count characters cells₀ rules₀ last i₀ cells rules i =
+Inv-loop words count last characters cells₀ rules₀ i₀ cells rules i =
     (i ≤ length characters) × (length cells ≡ length cells₀) × (length rules ≡ length rules₀)
-    × (cells ≡ filledTo (λ (x : ℕ). lookup (table (definitions count words)) x .cell) characters i cells₀)
-    × (rules ≡ filledTo (λ (x : ℕ). lookup (table (definitions count words)) x .rule) characters i rules₀)
+    × (cells ≡ filledTo (λ (x : ℕ). lookupBy (tableOf count words) last x .cell) characters i cells₀)
+    × (rules ≡ filledTo (λ (x : ℕ). lookupBy (tableOf count words) last x .rule) characters i rules₀)
 
 abbrev μ-loop : tie.MeasureT-loop
-μ-loop words count characters cells₀ rules₀ last i₀ cells rules i = length characters - i
+μ-loop words count last characters cells₀ rules₀ i₀ cells rules i = length characters - i
 
 pub fill-spec : {M : Type 1} → statement M
 fill-spec =
@@ -26,7 +25,6 @@ fill-spec =
     (tie.spec
     Inv-loop
     μ-loop
-    (λ c κs. search needs)
     (λ c. (search needs, search needs, search needs, refl, refl))
     (λ c. search needs)
     (λ c. search needs)

@@ -9,11 +9,9 @@ unfolding choose
 last-rules-spec =
     tie.close
     (tie.spec
-    (λ c κs. search needs)
     (λ c. search needs)
     (λ c. search on-cell)
     (λ c. search needs)
-    (λ c κs. search needs)
     (λ c. search needs)
     (λ c. search on-cell)
     (λ c. search needs)

@@ -1,5 +1,5 @@
 use Rattle.lookup.specs.Rules.{choose}
-use Rattle.lookup.proofs.Choices.{on-cell, asked, as-asked}
+use Rattle.lookup.proofs.Choices.{on-cell, asked}
 use borrow.Author.Needs.{needs}
 use Rattle.lookup.proofs.later_rules.Statement.{statement}
 use Rattle.lookup.proofs.later_rules.Tie as tie
@@ -17,6 +17,7 @@ later-rules-spec =
     (λ c κs. search needs)
     (λ c. search needs)
     (λ c. search needs)
+    (λ c κs. search needs)
     (λ c. search (on-cell, asked))
     (λ c. search (on-cell, asked))
-    (λ c. search (on-cell, asked, as-asked)))
+    (λ c. search (on-cell, asked)))

@@ -1,5 +1,6 @@
 use Rattle.lookup.proofs.Replies.{look-refused, look-sound}
 use Rattle.basics.proofs.Tests.{chosen}
+use Rattle.lookup.proofs.Choices.{by-last}
 use Rattle.table.proofs.Lent.{lent-short, lent-fault, lent-fits}
 use Rattle.lookup.proofs.WholeWalks.{lent-links}
 use borrow.Author.Needs.{needs}
@@ -16,7 +17,7 @@ look-up-spec =
     (λ c. search needs)
     (λ c κs. search needs)
     (λ c κs. search lent-fits)
-    (λ c κs. (search lent-fits, search needs))
-    (λ c. (search (look-sound, chosen), search (lent-links, look-sound, chosen)))
+    (λ c κs. search lent-fits)
+    (λ c. (search (look-sound, chosen, by-last), search (lent-links, look-sound, chosen, by-last)))
     (λ c. let e = look-refused _ _ (search lent-fault) in (e, lent-links _ _ e))
     (λ c. (search (look-sound, chosen), search (lent-links, look-sound, chosen))))

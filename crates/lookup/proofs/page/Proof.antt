@@ -20,6 +20,7 @@ page-spec =
     (λ c κs. search needs)
     (λ c. search needs)
     (λ c. search needs)
+    (λ c κs. search lent-fits)
     (λ c κs. (search lent-fits, search needs, search needs))
     (λ c. search page-fault)
     (λ c. search page-no-scalar)
