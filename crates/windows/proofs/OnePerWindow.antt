@@ -1,7 +1,7 @@
 -- An accepted call for many windows equals one page call per window in list order.
 use Prim.Native.Nat.{ℕ, zero, suc, _+_, _≤_}
 use mathlib.Core.Path.{_≡_, refl, sym, ap, _∙_}
-use mathlib.Core.Bool.{Bool, true, false}
+use mathlib.Core.Bool.{true}
 use mathlib.Core.List.{List, [], _∷_, _++_, map, map-append}
 use native.Mathlib.Omega.{arith}
 use lib.ListN.{length, take, drop, length-map, length-drop}
@@ -16,10 +16,10 @@ use Rattle.table.specs.Check.{lentTable}
 use Rattle.lookup.specs.declared.NoScalar.{NoScalar}
 use Rattle.lookup.specs.declared.NoScalar.the-variants.{Nowhere, At}
 use Rattle.lookup.specs.Rules.{lookup}
-use Rattle.lookup.specs.Calls.{firstNoScalar, over, pagePlan, pageReply}
+use Rattle.lookup.specs.Calls.{firstNoScalar, over, pagePlan, pageReply, pageCells, pageRules}
 use Rattle.windows.specs.declared.Window.{Window}
 use Rattle.windows.specs.Windows.{partOf, partsOf, widths, allWithin, bothHold, windowsPlan}
-use Rattle.windows.specs.OnePerWindow.{Call, called, pageCall, windowsCall, followedBy, onePerWindow, EqualsOnePerWindow}
+use Rattle.windows.specs.OnePerWindow.{Call, called, pageCall, followedBy, onePerWindow, EqualsOnePerWindow}
 use Rattle.windows.proofs.Outputs.{part-length, over-more, over-whole}
 use Rattle.windows.proofs.Turns.{each-holds}
 use Rattle.windows.proofs.Passes.{not-refused, within-rest}
@@ -94,35 +94,30 @@ module _ (words page : List ℕ) (ds : List Definition) (sound : lentTable words
 -- ---- the plan of an accepted call
 
 module _ (ws : List Window) (words page cells rules : List ℕ) where
-  abbrev Equal : Type 0
-  Equal = windowsCall ws words page cells rules ≡ onePerWindow ws words page cells rules
-
   abbrev plan : Reply (List Definition)
   plan = windowsPlan words page ws (length cells) (length rules)
 
-  abbrev room : Bool
-  room = bothHold (widths ws) (length cells) (length rules)
+  -- by its plan, the call is one page call per window
+  abbrev Equal : Type 0
+  Equal = called (pageReply plan) (pageCells plan (partsOf page ws) cells) (pageRules plan (partsOf page ws) rules) ≡ onePerWindow ws words page cells rules
 
   not-accepted : {number place : ℕ} → plan ≡ refused number place → pageReply plan ≡ answered tt → Equal
   not-accepted e o = absurd (not-refused (rw e at o))
 
-  by-scalars : (ds : List Definition) (s : NoScalar) → lentTable words ≡ answered ds → allWithin (length page) ws 0 ≡ answered tt → room ≡ true → firstNoScalar page 0 ≡ s → pageReply plan ≡ answered tt → Equal
+  by-scalars : (ds : List Definition) (s : NoScalar) → lentTable words ≡ answered ds → allWithin (length page) ws 0 ≡ answered tt → bothHold (widths ws) (length cells) (length rules) ≡ true
+      → firstNoScalar page 0 ≡ s → pageReply plan ≡ answered tt → Equal
   unfolding windowsPlan
   by-scalars ds Nowhere sound within roomy scalars o =
       let holds = each-holds (widths ws) (length cells) (length rules) roomy in
       rw (sound, within, roomy, scalars) (sym (one-by-one words page ds sound scalars ws 0 cells rules within (holds .0) (holds .1)))
   by-scalars ds (At i) sound within roomy scalars o = not-accepted {number = 14} {place = i} (rw (sound, within, roomy, scalars)) o
 
-  by-room : (ds : List Definition) → lentTable words ≡ answered ds → allWithin (length page) ws 0 ≡ answered tt → pageReply plan ≡ answered tt → Equal
-  unfolding windowsPlan
-  by-room ds sound within o =
-      by-cases room
-      (λ roomy. by-scalars ds (firstNoScalar page 0) sound within roomy refl o)
-      (λ roomy. not-accepted {number = 2} {place = 0} (rw (sound, within, roomy)) o)
-
   by-windows : (ds : List Definition) (r : Reply (Unit {0})) → lentTable words ≡ answered ds → allWithin (length page) ws 0 ≡ r → pageReply plan ≡ answered tt → Equal
   unfolding windowsPlan
-  by-windows ds (answered u) sound within o = by-room ds sound within o
+  by-windows ds (answered u) sound within o =
+      by-cases (bothHold (widths ws) (length cells) (length rules))
+      (λ roomy. by-scalars ds (firstNoScalar page 0) sound within roomy refl o)
+      (λ roomy. not-accepted {number = 2} {place = 0} (rw (sound, within, roomy)) o)
   by-windows ds (refused number place) sound beyond o = not-accepted {number = number} {place = place} (rw (sound, beyond)) o
 
   by-table : (r : Reply (List Definition)) → lentTable words ≡ r → pageReply plan ≡ answered tt → Equal
@@ -131,4 +126,5 @@ module _ (ws : List Window) (words page cells rules : List ℕ) where
   by-table (refused number place) e o = not-accepted {number = number} {place = place} (rw e) o
 
 pub equals-one-per-window : EqualsOnePerWindow
-equals-one-per-window ws words page cells rules o = by-table ws words page cells rules (lentTable words) refl o
+equals-one-per-window ws words page cells rules new-cells new-rules call =
+    rw (call .answer, call .cells, call .rules) (by-table ws words page cells rules (lentTable words) refl (sym (call .answer)))

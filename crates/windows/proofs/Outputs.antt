@@ -1,6 +1,6 @@
 -- Outputs that are written part by part.
 use Prim.Native.Nat.{ℕ, _+_, _-_, _≤_}
-use mathlib.Core.Path.{_≡_, refl, sym, ap, _∙_}
+use mathlib.Core.Path.{_≡_, sym, ap, _∙_}
 use mathlib.Core.List.{List, [], _++_, map, append-nil, append-assoc, map-append}
 use native.Mathlib.Omega.{arith}
 use lib.ListN.{length, take, drop, length-append, length-drop, length-map, take-append-drop, drop-of-length-le}
@@ -23,10 +23,7 @@ over-more new more old =
 pub over-whole : (new old : List ℕ) → length old ≤ length new → over new old ≡ new
 over-whole new old h = rw (drop-of-length-le old {i = length new} h) (append-nil new)
 
--- from the first place on
-pub over-start : (new old : List ℕ) → overAt 0 new old ≡ over new old
-over-start new old = refl
-
+-- no bytes
 pub over-none : (at : ℕ) (old : List ℕ) → overAt at [] old ≡ old
 over-none at old = take-append-drop at old
 

@@ -1,7 +1,7 @@
 -- What a pass over the windows comes to, by where it starts from.
-use Prim.Native.Nat.{ℕ, suc, _+_, _*_, _≤_, _<_}
+use Prim.Native.Nat.{ℕ, suc, _+_, _*_, _/_, _≤_, _<_}
 use mathlib.Core.Path.{_≡_, refl, sym, ap, _∙_}
-use mathlib.Core.Bool.{Bool, true, false, false≢true}
+use mathlib.Core.Bool.{true, false, false≢true}
 use mathlib.Core.List.{List, [], _∷_}
 use native.Mathlib.Omega.{arith}
 use native.Mathlib.Nat.{add-zero}
@@ -59,13 +59,13 @@ windows-none (x ∷ []) h = refl
 windows-none (x ∷ y ∷ numbers) h = absurd (omega arith)
 
 module _ (words page : List ℕ) (numbers : List ℕ) (s₀ : State) (i : ℕ) (s : State) (inv : passOf words page 0 (windowsOf numbers) s₀ ≡ passOf words page i (windowsOf (drop (2 * i) numbers)) s) where
-  pub numbers-next : {s′ : State} → 2 * i + 1 < length numbers → s′ ≡ turnOf words page i (record { start = getD numbers (2 * i) 0; width = getD numbers (2 * i + 1) 0 }) s
+  pub numbers-next : {s′ : State} → i < length numbers / 2 → s′ ≡ turnOf words page i (record { start = getD numbers (2 * i) 0; width = getD numbers (2 * i + 1) 0 }) s
       → passOf words page 0 (windowsOf numbers) s₀ ≡ passOf words page (i + 1) (windowsOf (drop (2 * (i + 1)) numbers)) s′
   numbers-next h e =
       let b : 2 * (i + 1) ≡ 2 * i + 2 = omega arith in
-      inv ∙ rw (b, e, two-more numbers (2 * i) h, windows-cons) (pass-cons words page i _ _ s)
+      inv ∙ rw (b, e, two-more numbers (2 * i) (omega arith), windows-cons) (pass-cons words page i _ _ s)
 
-  pub numbers-done : length numbers ≤ 2 * i + 1 → s ≡ passOf words page 0 (windowsOf numbers) s₀
+  pub numbers-done : length numbers / 2 ≤ i → s ≡ passOf words page 0 (windowsOf numbers) s₀
   numbers-done h =
       let none : windowsOf (drop (2 * i) numbers) ≡ [] = windows-none (drop (2 * i) numbers) (simp length-drop (omega arith)) in
       sym (inv ∙ rw none (pass-nil words page i s))

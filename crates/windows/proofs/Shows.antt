@@ -1,7 +1,7 @@
 -- What the two passes come to: the call for many windows.
 use Prim.Native.Nat.{ℕ, _+_, _*_, _≤_}
 use mathlib.Core.Path.{_≡_, refl, sym, ap, _∙_}
-use mathlib.Core.Bool.{Bool, true, false}
+use mathlib.Core.Bool.{Bool, true}
 use mathlib.Core.List.{List, [], _∷_}
 use native.Mathlib.Omega.{arith}
 use native.Mathlib.Nat.{zero-add}
@@ -13,6 +13,7 @@ use Rattle.basics.specs.Refusals.{Reply, answered, refused, numberOf, fillingRe
 use Rattle.basics.specs.declared.Filling.{Filling}
 use Rattle.basics.specs.declared.Refusal.{Refusal}
 use Rattle.basics.specs.declared.Refusal.the-variants.{ShortSlice, NotTable, NotScalar, BeyondPage}
+use Rattle.definitions.specs.declared.Definition.{Definition}
 use Rattle.table.specs.declared.Checked.{Checked}
 use Rattle.table.specs.declared.Checked.the-variants.{Sound, FaultAt}
 use Rattle.table.specs.Words.{tableWords, definitions}
@@ -21,13 +22,13 @@ use Rattle.table.proofs.Lent.{lent-short, lent-fault, lent-sound, lent-fits}
 use Rattle.lookup.specs.declared.NoScalar.{NoScalar}
 use Rattle.lookup.specs.declared.NoScalar.the-variants.{Nowhere, At}
 use Rattle.lookup.specs.Rules.{candidates, rulesFrom3, lookup}
-use Rattle.lookup.specs.Calls.{firstNoScalar}
+use Rattle.lookup.specs.Calls.{firstNoScalar, pageReply, pageCells, pageRules}
 use Rattle.windows.specs.declared.Window.{Window}
 use Rattle.windows.specs.declared.Prepared.{Prepared}
 use Rattle.windows.specs.declared.Run.{Run}
 use Rattle.windows.specs.declared.Run.the-variants.{Measuring, Refused}
-use Rattle.windows.specs.Windows.{widths, isWithin, allWithin, bothHold, windowsPlan, PagesWindows}
-use Rattle.windows.specs.OnePerWindow.{Call, called, windowsCall}
+use Rattle.windows.specs.Windows.{partsOf, widths, isWithin, allWithin, bothHold, windowsPlan, PagesWindows}
+use Rattle.windows.specs.OnePerWindow.{Call, called}
 use Rattle.windows.specs.Internal.{State, state, passOf, preparedOf, beginOf, decideOf, answerOf}
 use Rattle.windows.proofs.Turns.{each-holds}
 use Rattle.windows.proofs.Passes.{from-refused, from-measuring, from-writing, foundBy, totalOf, not-refused}
@@ -39,6 +40,12 @@ afterPass st = called (fillingReply (answerOf (st .run))) (st .cells) (st .rules
 
 abbrev secondPass : List Window → List ℕ → List ℕ → State → Call
 secondPass ws words page st = afterPass (passOf words page 0 ws (state (decideOf (st .run) page) (st .cells) (st .rules)))
+
+-- what the plan asks for
+abbrev byPlan : List Window → List ℕ → List ℕ → List ℕ → List ℕ → Call
+byPlan ws words page cells rules =
+    let plan : Reply (List Definition) = windowsPlan words page ws (length cells) (length rules) in
+    called (pageReply plan) (pageCells plan (partsOf page ws) cells) (pageRules plan (partsOf page ws) rules)
 
 -- ---- what it computes
 
@@ -53,7 +60,7 @@ beyond-number n (w ∷ ws) i number place o =
 
 module _ (ws : List Window) (words page cells rules : List ℕ) where
   abbrev Computes : Run → Type 0
-  Computes begun = secondPass ws words page (passOf words page 0 ws (state begun cells rules)) ≡ windowsCall ws words page cells rules
+  Computes begun = secondPass ws words page (passOf words page 0 ws (state begun cells rules)) ≡ byPlan ws words page cells rules
 
   -- refused before the first pass
   at-once : (refusal : Refusal) (place : ℕ) → lentTable words ≡ refused (numberOf refusal) place → Computes (Refused refusal place)
@@ -107,7 +114,7 @@ pub shows-all : (ws : List Window) (words page cells rules : List ℕ) (r0 r1 r2
     → r0 ≡ beginOf words → state r1 cells1 rules1 ≡ passOf words page 0 ws (state r0 cells rules) → r2 ≡ decideOf r1 page → state r3 cells3 rules3 ≡ passOf words page 0 ws (state r2 cells1 rules1) → r ≡ answerOf r3
     → PagesWindows (λ reply. reply) ws words page cells rules (fillingReply r) cells3 rules3
 shows-all ws words page cells rules r0 r1 r2 r3 cells1 rules1 cells3 rules3 r e0 e1 e2 e3 e4 =
-    let e : called (fillingReply r) cells3 rules3 ≡ windowsCall ws words page cells rules =
+    let e : called (fillingReply r) cells3 rules3 ≡ byPlan ws words page cells rules =
     ap (λ (s : Filling). called (fillingReply s) cells3 rules3) e4 ∙ ap afterPass (e3 ∙ ap (λ (s : Run). passOf words page 0 ws (state s cells1 rules1)) e2)
     ∙ ap (secondPass ws words page) (e1 ∙ ap (λ (s : Run). passOf words page 0 ws (state s cells rules)) e0) ∙ computes ws words page cells rules in
     record { answer = ap (λ (x : Call). x .answer) e; cells = ap (λ (x : Call). x .cells) e; rules = ap (λ (x : Call). x .rules) e }

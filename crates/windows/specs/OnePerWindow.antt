@@ -7,7 +7,7 @@ use Rattle.basics.specs.Refusals.{Reply, answered, andThen}
 use Rattle.definitions.specs.declared.Definition.{Definition}
 use Rattle.lookup.specs.Calls.{pagePlan, pageReply, pageCells, pageRules}
 use Rattle.windows.specs.declared.Window.{Window}
-use Rattle.windows.specs.Windows.{partOf, partsOf, windowsPlan}
+use Rattle.windows.specs.Windows.{partOf, PagesWindows}
 
 -- what a call answers, and what both outputs hold after it
 pub record Call : Type 0 where
@@ -18,17 +18,11 @@ pub record Call : Type 0 where
 abbrev pub called : Reply (Unit {0}) → List ℕ → List ℕ → Call
 called answer cells rules = record { answer = answer; cells = cells; rules = rules }
 
--- by its plan, from the characters and from what both outputs held
-abbrev pub planned : Reply (List Definition) → List ℕ → List ℕ → List ℕ → Call
-planned plan characters cells rules = called (pageReply plan) (pageCells plan characters cells) (pageRules plan characters rules)
-
--- the page call
+-- the page call, from what both outputs held
 abbrev pub pageCall : List ℕ → List ℕ → List ℕ → List ℕ → Call
-pageCall words page cells rules = planned (pagePlan words page (length cells) (length rules)) page cells rules
-
--- the page call for many windows
-abbrev pub windowsCall : List Window → List ℕ → List ℕ → List ℕ → List ℕ → Call
-windowsCall ws words page cells rules = planned (windowsPlan words page ws (length cells) (length rules)) (partsOf page ws) cells rules
+pageCall words page cells rules =
+    let plan : Reply (List Definition) = pagePlan words page (length cells) (length rules) in
+    called (pageReply plan) (pageCells plan page cells) (pageRules plan page rules)
 
 -- one page call, then the others on what follows in both outputs; the first refusal stands
 abbrev pub followedBy : Call → Call → Call
@@ -41,9 +35,9 @@ onePerWindow (w ∷ ws) words page cells rules =
     let others : Call = onePerWindow ws words page (drop (w .width) cells) (drop (w .width) rules) in
     followedBy (pageCall words (partOf page w) (take (w .width) cells) (take (w .width) rules)) others
 
--- an accepted call for many windows is that: the same bytes in both outputs, and every one of those calls accepted
+-- what a call for many windows does that is accepted: the same bytes in both outputs, and every one of those calls is accepted
 abbrev pub EqualsOnePerWindow : Type 0
 EqualsOnePerWindow =
-    (ws : List Window) (words page cells rules : List ℕ)
-    → windowsCall ws words page cells rules .answer ≡ answered tt
-    → windowsCall ws words page cells rules ≡ onePerWindow ws words page cells rules
+    (ws : List Window) (words page cells rules new-cells new-rules : List ℕ)
+    → PagesWindows (λ reply. reply) ws words page cells rules (answered tt) new-cells new-rules
+    → called (answered tt) new-cells new-rules ≡ onePerWindow ws words page cells rules

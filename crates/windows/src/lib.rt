@@ -22,13 +22,13 @@ pub struct Window {
 }
 
 // A sound table: the count of its definitions, and its cells of rules 7 and 8, which are asked once for all windows.
-pub struct Prepared {
+struct Prepared {
     pub count: usize,
     pub last: LastCells,
 }
 
 // How far a pass over the windows is.
-pub enum Run {
+enum Run {
     // The windows so far have so many characters, and both outputs hold them.
     Measuring(Prepared, usize),
     // An output does not hold the windows so far.
@@ -302,9 +302,7 @@ pub fn show_numbers(
 ) -> Filling
     ensures { λ r. ⌜ PagesWindows (λ reply. reply) (windowsOf (now (numbers .entry))) (now (words .entry)) (now (page .entry)) (now (cells .entry)) (now (rules .entry)) (fillingReply r) (now (cells .exit)) (now (rules .exit)) ⌝ }
 {
-    let first = begin(words);
-    let found = pass_numbers(numbers, words, page, &mut *cells, &mut *rules, first);
-    let second = decide(found, page);
-    let done = pass_numbers(numbers, words, page, cells, rules, second);
+    let found = pass_numbers(numbers, words, page, &mut *cells, &mut *rules, begin(words));
+    let done = pass_numbers(numbers, words, page, cells, rules, decide(found, page));
     answer(done)
 }

@@ -18,47 +18,13 @@ Inv-loop numbers words page cells₀ rules₀ run₀ i₀ cells rules run i =
 abbrev μ-loop : tie.MeasureT-loop
 μ-loop numbers words page cells₀ rules₀ run₀ i₀ cells rules run i = length numbers / 2 - i
 
--- src/lib.rt:239:5
-loop-holds : tie.Need-loop-holds Inv-loop μ-loop
-loop-holds c = (omega arith, refl, refl, refl)
-
--- src/lib.rt:241:28
--- src/lib.rt:241:20
--- src/lib.rt:241:20
--- src/lib.rt:242:28
--- src/lib.rt:242:28
--- src/lib.rt:242:20
--- src/lib.rt:242:20
--- src/lib.rt:244:9
--- src/lib.rt:245:9
--- src/lib.rt:239:5
--- src/lib.rt:239:5
-loop-again : tie.Need-loop-again Inv-loop μ-loop
-loop-again c =
-    let a = c .before .before .before .before .before .before .before .before .before .before .before .before .before .before .before .before .args in
-    let l = c .before .before .before .before .before .before .before .before .before .before .loop in (
-      search needs,
-      search needs,
-      search needs,
-      numbers-next (a .words .now) (a .page .now) (a .numbers .now) (state (a .run) (a .cells .now) (a .rules .now)) (l .i) (state (l .run) (l .cells) (l .rules)) (l .inv .3) (omega arith) (c .before .before .before .before .turn .ensures),
-    )
-
--- src/lib.rt:228:1
--- src/lib.rt:228:1
--- src/lib.rt:228:1
-returns : tie.Need-returns Inv-loop μ-loop
-returns c =
-    let a = c .before .before .before .before .before .before .before .args in
-    let l = c .before .loop in
-    numbers-done (a .words .now) (a .page .now) (a .numbers .now) (state (a .run) (a .cells .now) (a .rules .now)) (l .i) (state (l .run) (l .cells) (l .rules)) (l .inv .3) (omega arith)
-
 pub pass-numbers-spec : {M : Type 1} → statement M
 pass-numbers-spec =
     tie.close
     (tie.spec
     Inv-loop
     μ-loop
-    loop-holds
+    (λ c. (omega arith, refl, refl, refl))
     (λ c. search needs)
     (λ c. search needs)
     (λ c. search needs)
@@ -69,7 +35,7 @@ pass-numbers-spec =
     (λ c κs. search needs)
     (λ c. search needs)
     (λ c. search needs)
-    loop-again
+    (λ c. (search needs, search needs, search needs, search numbers-next))
     (λ c. search needs)
     (λ c. search needs)
-    returns)
+    (λ c. search numbers-done))
