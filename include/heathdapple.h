@@ -3,7 +3,7 @@
  * Link with libheathdapple.a (x86-64 Linux). Each pointer is valid for its length, in elements; buffers that are written
  * lie apart from each other and from what is read. A length may be 0, with any non-null pointer.
  *
- * A refusal is number * 2^32 + place, with the numbers 1 to 18 of the papers; a place beyond 2^32 - 1 is given as 2^32 - 1.
+ * A refusal is number * 2^32 + place, with the numbers 1 to 19 of the papers; a place beyond 2^32 - 1 is given as 2^32 - 1.
  * Every other answer is below 2^32.
  */
 #ifndef HEATHDAPPLE_H
@@ -27,6 +27,19 @@ uint64_t heathdapple_look_up(const uint32_t *words, size_t words_length, uint32_
  * place, which writes nothing. */
 uint64_t heathdapple_page(const uint32_t *words, size_t words_length, const uint32_t *characters, size_t characters_length,
                           uint8_t *cells, size_t cells_length, uint8_t *rules, size_t rules_length);
+
+/* A window of a page: its first character, from 0, and how many characters it has. */
+struct heathdapple_window {
+    size_t start;
+    size_t width;
+};
+
+/* Fills a cell and a rule for each character of each window of a page, one window after another in list order; windows may
+ * overlap or be empty, and bytes past all widths together stay. windows_length is the count of windows. Answers 0, or a
+ * refusal with its place, which writes nothing. */
+uint64_t heathdapple_windows(const uint32_t *words, size_t words_length, const uint32_t *characters, size_t characters_length,
+                             const struct heathdapple_window *windows, size_t windows_length, uint8_t *cells,
+                             size_t cells_length, uint8_t *rules, size_t rules_length);
 
 /* The character that a cell types on a compiled table: 0 for nothing, else the character + 1, or a refusal with its place. */
 uint64_t heathdapple_typed(const uint32_t *words, size_t words_length, uint8_t cell);
