@@ -1,3 +1,4 @@
+pub mod Parameters
 pub mod Lending
 pub mod Outputs
 pub mod Turns
