@@ -1,5 +1,6 @@
 // The page call for many windows: their cells and rules, one after another.
-// A function over a slice of structs is proved statement by statement, so `pass` and `show` are thin; all else works on one window by value.
+// A function over a slice of structs is proved statement by statement, so `pass` and `show` are thin; all else works on
+// one window by value.
 use basics::Filling;
 use basics::Refusal;
 use lookup::LastCells;
@@ -9,8 +10,8 @@ use table::TABLE_WORDS;
 ghost use mathlib.Core.Path.{_≡_};
 ghost use Prim.Native.Nat.{_+_};
 ghost use lib.Dec.{leb};
-ghost use Rattle.basics.specs.Refusals.{fillingReply};
 ghost use lib.ListN.{length};
+ghost use Rattle.basics.specs.Refusals.{fillingReply};
 ghost use Rattle.windows.specs.Windows.{partOf, bothHold, PagesWindows, windowsOf};
 ghost use Rattle.windows.specs.Internal.{state, measuredOf, wideOf, hasRoom, Room, overAt, cellsFor, rulesFor, writtenOf, turnOf, passOf, beginOf, decideOf, answerOf};
 
@@ -23,8 +24,8 @@ pub struct Window {
 
 // A sound table: the count of its definitions, and its cells of rules 7 and 8, which are asked once for all windows.
 struct Prepared {
-    pub count: usize,
-    pub last: LastCells,
+    count: usize,
+    last: LastCells,
 }
 
 // How far a pass over the windows is.
