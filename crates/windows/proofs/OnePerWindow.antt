@@ -95,7 +95,7 @@ module _ (words page : List ℕ) (ds : List Definition) (sound : lentTable words
 
 module _ (ws : List Window) (words page cells rules : List ℕ) where
   abbrev plan : Reply (List Definition)
-  plan = windowsPlan words page ws (length cells) (length rules)
+  plan = windowsPlan ws words page (length cells) (length rules)
 
   -- by its plan, the call is one page call per window
   abbrev Equal : Type 0

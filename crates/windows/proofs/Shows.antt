@@ -44,7 +44,7 @@ secondPass ws words page st = afterPass (passOf words page 0 ws (state (decideOf
 -- what the plan asks for
 abbrev byPlan : List Window → List ℕ → List ℕ → List ℕ → List ℕ → Call
 byPlan ws words page cells rules =
-    let plan : Reply (List Definition) = windowsPlan words page ws (length cells) (length rules) in
+    let plan : Reply (List Definition) = windowsPlan ws words page (length cells) (length rules) in
     called (pageReply plan) (pageCells plan (partsOf page ws) cells) (pageRules plan (partsOf page ws) rules)
 
 -- ---- what it computes

@@ -35,7 +35,7 @@ onePerWindow (w ∷ ws) words page cells rules =
     let others : Call = onePerWindow ws words page (drop (w .width) cells) (drop (w .width) rules) in
     followedBy (pageCall words (partOf page w) (take (w .width) cells) (take (w .width) rules)) others
 
--- what a call for many windows does that is accepted: the same bytes in both outputs, and every one of those calls is accepted
+-- that is what a call for many windows does that is accepted: the same bytes in both outputs, every one of those calls accepted
 abbrev pub EqualsOnePerWindow : Type 0
 EqualsOnePerWindow =
     (ws : List Window) (words page cells rules new-cells new-rules : List ℕ)

@@ -41,15 +41,15 @@ abbrev pub bothHold : ℕ → ℕ → ℕ → Bool
 bothHold n cells rules = leb n cells && leb n rules
 
 -- the call, for outputs of so many bytes: the definitions that fill them, or a refusal
-unfoldable pub windowsPlan : List ℕ → List ℕ → List Window → ℕ → ℕ → Reply (List Definition)
-windowsPlan words page ws cells rules =
+unfoldable pub windowsPlan : List Window → List ℕ → List ℕ → ℕ → ℕ → Reply (List Definition)
+windowsPlan ws words page cells rules =
     andThen (lentTable words) (λ ds.
     andThen (allWithin (length page) ws 0) (λ u.
     pick (bothHold (widths ws) cells rules) (unlessAt (firstNoScalar page 0) ds) (refused 2 0)))
 
 -- what the call is to do: as a page call does by its plan, of the windows' parts one after another
 abbrev pub PagesWindows : {A : Type 0} → (Reply (Unit {0}) → A) → List Window → List ℕ → List ℕ → List ℕ → List ℕ → A → List ℕ → List ℕ → Type 0
-PagesWindows given ws words page cells rules = Pages given (windowsPlan words page ws (length cells) (length rules)) (partsOf page ws) cells rules
+PagesWindows given ws words page cells rules = Pages given (windowsPlan ws words page (length cells) (length rules)) (partsOf page ws) cells rules
 
 -- two numbers a window, its start and its width; a last number without a second one is no window
 unfoldable pub windowsOf : List ℕ → List Window
