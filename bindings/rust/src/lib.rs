@@ -54,6 +54,17 @@ pub struct Shown {
     pub links: u32,
 }
 
+/// A part of a page, counted in characters.
+// As the header has it: the library reads lists of them.
+#[repr(C)]
+#[derive(Clone, Copy, Debug, Default, PartialEq, Eq)]
+pub struct Window {
+    /// The index of its first character.
+    pub start: usize,
+    /// How many characters it has; it may be empty.
+    pub width: usize,
+}
+
 /// The value of a code, which is at most `most`, or its refusal. A greater value, which no call gives, is number 0.
 fn value(code: u64, most: u32) -> Result<u32, Refusal> {
     let (number, low) = ((code >> 32) as u32, code as u32);
@@ -81,6 +92,34 @@ pub fn look_up(words: &[u32], character: u32) -> Result<Shown, Refusal> {
 /// Fills a cell and a rule for each character of a page; bytes past the page's length stay. A refusal writes nothing.
 pub fn page(words: &[u32], characters: &[u32], cells: &mut [u8], rules: &mut [u8]) -> Result<(), Refusal> {
     value(library::page(words, characters, cells, rules), 0).map(drop)
+}
+
+/// Fills a cell and a rule for each character of some windows of a page, one window after another from the front of both
+/// buffers; bytes past all widths together stay. A refusal writes nothing.
+///
+/// It is as one call of [`page`] for each window, but for refusals: a window beyond the page is 19, a buffer that does not
+/// hold all widths together is 2, and a character that is no scalar is 14 wherever it stands on the page. Windows may
+/// overlap or be empty, and the buffers may be shorter than the page.
+///
+/// ```
+/// use heathdapple::{Table, Window};
+///
+/// let table = Table::compile(b"char a 1\nchar b 12\nchar c 14\n")?;
+/// let page = ['a', 'b', 'c'].map(u32::from);
+/// let windows = [Window { start: 2, width: 1 }, Window { start: 0, width: 2 }];
+/// let (mut cells, mut rules) = ([0; 3], [0; 3]);
+/// heathdapple::windows(table.words(), &page, &windows, &mut cells, &mut rules)?;
+/// assert_eq!((cells, rules), ([0x09, 0x01, 0x03], [3, 3, 3]));
+/// # Ok::<(), heathdapple::Refusal>(())
+/// ```
+pub fn windows(
+    words: &[u32],
+    characters: &[u32],
+    windows: &[Window],
+    cells: &mut [u8],
+    rules: &mut [u8],
+) -> Result<(), Refusal> {
+    value(library::windows(words, characters, windows, cells, rules), 0).map(drop)
 }
 
 /// The character that a cell types on a compiled table, if any.
@@ -146,6 +185,35 @@ mod tests {
         words[3] = 5;
         assert_eq!(entries(&words, &mut all), Err(Refusal { number: 15, place: 1 }));
         assert_eq!(typed(&[], 0), Err(Refusal { number: 2, place: 0 }));
+    }
+
+    #[test]
+    fn windows_of_a_page() {
+        let mut words = [0; TABLE_WORDS];
+        assert_eq!(compile(b"char a 1\nchar b 12\n", &mut words), Ok(2));
+        let page = [0x61, 0x62, 0x2809];
+        let shown = |page: &[u32], parts: &[(usize, usize)], length: usize| {
+            let list: Vec<Window> = parts.iter().map(|&(start, width)| Window { start, width }).collect();
+            let (mut cells, mut rules) = (vec![7; length], vec![8; length]);
+            match windows(&words, page, &list, &mut cells, &mut rules) {
+                Ok(()) => Ok((cells, rules)),
+                Err(refusal) => {
+                    assert_eq!((cells, rules), (vec![7; length], vec![8; length]));
+                    Err((refusal.number, refusal.place))
+                }
+            }
+        };
+        assert_eq!(shown(&page, &[(1, 2), (0, 2)], 5), Ok((vec![3, 9, 1, 3, 7], vec![3, 1, 3, 3, 8])));
+        assert_eq!(shown(&page, &[(3, 0), (2, 1)], 1), Ok((vec![9], vec![1])));
+        assert_eq!(shown(&page, &[], 0), Ok((vec![], vec![])));
+        assert_eq!(shown(&page, &[(3, 0), (2, 2), (4, 0)], 0), Err((19, 1)));
+        assert_eq!(shown(&page, &[(usize::MAX, 1)], 0), Err((19, 0)));
+        assert_eq!(shown(&page, &[(0, 3), (2, 1)], 3), Err((2, 0)));
+        assert_eq!(shown(&[0x61, 0xD800], &[(0, 1)], 1), Err((14, 1)));
+        let list = [Window::default()];
+        assert_eq!(windows(&words[1..], &page, &list, &mut [], &mut []), Err(Refusal { number: 2, place: 0 }));
+        words[3] = 5;
+        assert_eq!(windows(&words, &[], &list, &mut [], &mut []), Err(Refusal { number: 15, place: 1 }));
     }
 
     #[test]

@@ -8,7 +8,11 @@
 
 #![allow(unsafe_code)]
 
+use crate::Window;
+
 mod c {
+    use crate::Window;
+
     extern "C" {
         pub fn heathdapple_compile(text: *const u8, text_length: usize, words: *mut u32, words_length: usize) -> u64;
         pub fn heathdapple_look_up(words: *const u32, words_length: usize, character: u32) -> u64;
@@ -17,6 +21,18 @@ mod c {
             words_length: usize,
             characters: *const u32,
             characters_length: usize,
+            cells: *mut u8,
+            cells_length: usize,
+            rules: *mut u8,
+            rules_length: usize,
+        ) -> u64;
+        pub fn heathdapple_windows(
+            words: *const u32,
+            words_length: usize,
+            characters: *const u32,
+            characters_length: usize,
+            windows: *const Window,
+            windows_length: usize,
             cells: *mut u8,
             cells_length: usize,
             rules: *mut u8,
@@ -58,6 +74,25 @@ pub fn page(words: &[u32], characters: &[u32], cells: &mut [u8], rules: &mut [u8
             words.len(),
             characters.as_ptr(),
             characters.len(),
+            cells.as_mut_ptr(),
+            cells.len(),
+            rules.as_mut_ptr(),
+            rules.len(),
+        )
+    }
+}
+
+pub fn windows(words: &[u32], characters: &[u32], windows: &[Window], cells: &mut [u8], rules: &mut [u8]) -> u64 {
+    // SAFETY: `words`, `characters` and `windows` are read, `cells` and `rules` written, each within its slice; a window
+    // is laid out as in the header. Windows beyond the page and buffers that do not hold all of them are refused.
+    unsafe {
+        c::heathdapple_windows(
+            words.as_ptr(),
+            words.len(),
+            characters.as_ptr(),
+            characters.len(),
+            windows.as_ptr(),
+            windows.len(),
             cells.as_mut_ptr(),
             cells.len(),
             rules.as_mut_ptr(),

@@ -9,9 +9,10 @@ use std::fmt;
 /// ```
 #[derive(Clone, Copy, Debug, PartialEq, Eq)]
 pub struct Refusal {
-    /// 1 to 18; 0 for an answer that the call never gives.
+    /// 1 to 19; 0 for an answer that the call never gives.
     pub number: u32,
-    /// A line from 1, or a pair of words or a character's index from 0; 2^32 - 1 also for a greater one.
+    /// A line from 1, or a pair of words, a character or a window of a call's list from 0; 2^32 - 1 also for a greater
+    /// one.
     pub place: u32,
 }
 
@@ -38,6 +39,7 @@ impl Refusal {
             16 => "bad attribute state",
             17 => "`else` or `endIf` with no block open, or a second `else`",
             18 => "block open at the end of the text",
+            19 => "window beyond the page",
             _ => "refused for a reason unknown here",
         }
     }
@@ -51,6 +53,7 @@ impl fmt::Display for Refusal {
             3..=13 | 16..=18 => "line",
             14 => "character",
             15 => "pair",
+            19 => "window",
             _ => "place",
         };
         if !place.is_empty() {
@@ -76,7 +79,8 @@ mod tests {
             (16, 1, "line 1: bad attribute state (refusal 16)"),
             (17, 4, "line 4: `else` or `endIf` with no block open, or a second `else` (refusal 17)"),
             (18, 2, "line 2: block open at the end of the text (refusal 18)"),
-            (19, 4, "place 4: refused for a reason unknown here (refusal 19)"),
+            (19, 4, "window 4: window beyond the page (refusal 19)"),
+            (20, 4, "place 4: refused for a reason unknown here (refusal 20)"),
             (u32::MAX, 0, "place 0: refused for a reason unknown here (refusal 4294967295)"),
         ] {
             assert_eq!(Refusal { number, place }.to_string(), message);

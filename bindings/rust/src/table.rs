@@ -1,4 +1,4 @@
-use crate::{Refusal, Shown, CELLS, TABLE_WORDS};
+use crate::{Refusal, Shown, Window, CELLS, TABLE_WORDS};
 
 /// A compiled text table that owns its words.
 ///
@@ -38,6 +38,17 @@ impl Table {
         crate::page(&self.words, characters, cells, rules)
     }
 
+    /// Fills a cell and a rule for each character of some windows; see [`crate::windows`].
+    pub fn windows(
+        &self,
+        characters: &[u32],
+        windows: &[Window],
+        cells: &mut [u8],
+        rules: &mut [u8],
+    ) -> Result<(), Refusal> {
+        crate::windows(&self.words, characters, windows, cells, rules)
+    }
+
     /// The character that a cell types, if any.
     pub fn typed(&self, cell: u8) -> Result<Option<char>, Refusal> {
         Ok(crate::typed(&self.words, cell)?.and_then(char::from_u32))
@@ -54,7 +65,7 @@ impl Table {
 #[cfg(test)]
 mod tests {
     use super::Table;
-    use crate::{Refusal, Shown};
+    use crate::{Refusal, Shown, Window};
 
     #[test]
     fn owned() {
@@ -67,6 +78,9 @@ mod tests {
         let (mut cells, mut rules) = ([0; 2], [0; 2]);
         assert_eq!(table.page(&[0x61, 0x62], &mut cells, &mut rules), Ok(()));
         assert_eq!((cells, rules), ([1, 1], [3, 3]));
+        let windows = [Window { start: 2, width: 1 }, Window { start: 0, width: 1 }];
+        assert_eq!(table.windows(&[0x61, 0x62, 0x3B1], &windows, &mut cells, &mut rules), Ok(()));
+        assert_eq!((cells, rules), ([1, 1], [4, 3]));
     }
 
     #[test]
