@@ -1,8 +1,8 @@
-//! Texts, tables and characters at random: made by the grammar of the papers, then damaged in part.
+//! Texts, tables, characters and windows at random: made by the grammar of the papers, then damaged in part.
 
 use crate::random::Random;
 use crate::reference::{
-    self, Block, Condition, Meanings, Pairs, Place, Reading, CONDITIONS, LINE_BYTES, PAIRS, TEXT_BYTES, WORDS,
+    self, Block, Condition, Meanings, Pairs, Place, Reading, Window, CONDITIONS, LINE_BYTES, PAIRS, TEXT_BYTES, WORDS,
 };
 
 /// Characters that the rules know: bases, characters with a base, stand-ins and characters with one.
@@ -976,6 +976,54 @@ pub fn any_table(random: &mut Random, words: &mut [u32]) -> Vec<u32> {
         damage_table(random, words, count);
     }
     characters
+}
+
+// Windows.
+
+/// A window on a page of that length.
+fn window_inside(random: &mut Random, length: usize) -> Window {
+    let start = random.between(0, length);
+    match random.below(8) {
+        0 => Window { start: 0, width: length },
+        1 => Window { start: length, width: 0 },
+        2 => Window { start, width: 0 },
+        3 => Window { start, width: length - start },
+        _ => Window { start, width: random.between(0, length - start) },
+    }
+}
+
+/// A window beyond a page of that length: by little, or so far that a sum or a number of fewer bits would be on it.
+fn window_beyond(random: &mut Random, length: usize) -> Window {
+    let Window { start, width } = window_inside(random, length);
+    // The same end by a sum that wraps at 2^64.
+    let wrapped = |far: usize| Window { start: far, width: (start + width).wrapping_sub(far) };
+    match random.below(10) {
+        0 | 1 => Window { start, width: length - start + 1 },
+        2 => Window { start: length + 1, width: 0 },
+        3 => Window { start: length + random.between(1, 9), width },
+        4 => wrapped(usize::MAX - random.below(9)),
+        5 => wrapped(1 << 63 | random.bits() as usize),
+        6 => wrapped(length + random.between(1, 9)),
+        7 => Window { start: 1 << random.between(32, 63) | start, width },
+        8 => Window { start, width: 1 << random.between(32, 63) | width },
+        _ => {
+            let far = [usize::MAX - random.below(9), 1 << 63, length];
+            Window { start: *random.pick(&far), width: *random.pick(&far[..2]) }
+        }
+    }
+}
+
+/// Up to six windows of a page of that length; in part of the lists some are beyond it.
+pub fn windows(random: &mut Random, length: usize) -> Vec<Window> {
+    let beyond = *random.pick(&[0, 0, 0, 0, 0, 10, 30, 60]);
+    let window = |random: &mut Random| {
+        if random.percent(beyond) {
+            window_beyond(random, length)
+        } else {
+            window_inside(random, length)
+        }
+    };
+    (0..random.below(7)).map(|_| window(random)).collect()
 }
 
 // Attributes.

@@ -1,6 +1,6 @@
 //! The same answers by a HashMap from character to meaning, for the benchmark. Lines, rules and pairs are the reference's.
 
-use crate::reference::{self, Meaning, Meanings, Pairs, Refusal, Shown, CELLS};
+use crate::reference::{self, Meaning, Meanings, Pairs, Refusal, Shown, Window, CELLS};
 use std::collections::HashMap;
 
 struct Table {
@@ -63,6 +63,18 @@ pub fn look_up(words: &[u32], character: u32) -> Result<Shown, Refusal> {
 pub fn page(words: &[u32], characters: &[u32], cells: &mut [u8], rules: &mut [u8]) -> Result<(), Refusal> {
     reference::fits(characters, cells, rules)?;
     check(words)?.0.fill(characters, cells, rules)
+}
+
+pub fn windows(
+    words: &[u32],
+    characters: &[u32],
+    windows: &[Window],
+    cells: &mut [u8],
+    rules: &mut [u8],
+) -> Result<(), Refusal> {
+    let (table, _) = check(words)?;
+    reference::windows_fit(characters, windows, cells, rules)?;
+    table.fill_windows(characters, windows, cells, rules)
 }
 
 pub fn typed(words: &[u32], cell: u8) -> Result<Option<u32>, Refusal> {

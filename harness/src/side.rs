@@ -1,9 +1,10 @@
 //! The calls of one implementation, so that several can be run side by side.
 
-use crate::reference::{Refusal, Shown};
+use crate::reference::{Refusal, Shown, Window};
 use crate::{hashed, reference};
 
 pub type Page = fn(&[u32], &[u32], &mut [u8], &mut [u8]) -> Result<(), Refusal>;
+pub type Windows = fn(&[u32], &[u32], &[Window], &mut [u8], &mut [u8]) -> Result<(), Refusal>;
 
 #[derive(Clone, Copy)]
 pub struct Side {
@@ -11,6 +12,7 @@ pub struct Side {
     pub compile: fn(&[u8], &mut [u32]) -> Result<u32, Refusal>,
     pub look_up: fn(&[u32], u32) -> Result<Shown, Refusal>,
     pub page: Page,
+    pub windows: Windows,
     pub typed: fn(&[u32], u8) -> Result<Option<u32>, Refusal>,
     pub entries: fn(&[u32], &mut [u32]) -> Result<(), Refusal>,
     pub attribute_cell: fn(&[u8], u8) -> Result<u8, Refusal>,
@@ -22,6 +24,24 @@ impl Side {
     pub fn entry(&self, words: &[u32], cell: u8) -> Result<u32, Refusal> {
         (self.typed)(words, cell).map(reference::entry)
     }
+
+    /// Windows that lie on the page by one page call each, on the next part of the buffers.
+    pub fn page_by_window(
+        &self,
+        words: &[u32],
+        characters: &[u32],
+        windows: &[Window],
+        cells: &mut [u8],
+        rules: &mut [u8],
+    ) -> Result<(), Refusal> {
+        let mut at = 0;
+        for &Window { start, width } in windows {
+            let to = at + width;
+            (self.page)(words, &characters[start..start + width], &mut cells[at..to], &mut rules[at..to])?;
+            at = to;
+        }
+        Ok(())
+    }
 }
 
 pub const LIBRARY: Side = Side {
@@ -29,6 +49,7 @@ pub const LIBRARY: Side = Side {
     compile: heathdapple::compile,
     look_up: heathdapple::look_up,
     page: heathdapple::page,
+    windows: heathdapple::windows,
     typed: heathdapple::typed,
     entries: heathdapple::entries,
     attribute_cell: heathdapple::attribute_cell,
@@ -40,6 +61,7 @@ pub const REFERENCE: Side = Side {
     compile: reference::compile,
     look_up: reference::look_up,
     page: reference::page,
+    windows: reference::windows,
     typed: reference::typed,
     entries: reference::entries,
     attribute_cell: reference::attribute_cell,
@@ -52,6 +74,7 @@ pub const HASHED: Side = Side {
     compile: hashed::compile,
     look_up: hashed::look_up,
     page: hashed::page,
+    windows: hashed::windows,
     typed: hashed::typed,
     entries: hashed::entries,
     ..REFERENCE

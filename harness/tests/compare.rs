@@ -1,9 +1,9 @@
-//! The library against the reference on random texts, tables and pages: answers and lent memory, byte by byte.
+//! The library against the reference on random texts, tables, pages and windows: answers and lent memory, byte by byte.
 //! HEATHDAPPLE_SEED names another seed.
 
 use harness::generate;
 use harness::random::Random;
-use harness::reference::{self, Refusal, CONDITIONS, PAIRS, WORDS};
+use harness::reference::{self, Refusal, Window, CONDITIONS, PAIRS, WORDS};
 use harness::side::{Side, HASHED, LIBRARY, REFERENCE};
 use std::fmt::Debug;
 use std::process::exit;
@@ -15,13 +15,14 @@ const LARGE_TEXTS: u64 = 300;
 const CHAIN_TEXTS: u64 = 60;
 const LONG_CHAINS: u64 = 2;
 const TABLES: u64 = 20_000;
+const TABLES_FOR_WINDOWS: u64 = 30_000;
 const ATTRIBUTES_TEXTS: u64 = 25_000;
 const LEAST: u64 = 100;
 /// Differences after which the run stops.
 const ENOUGH: u64 = 10;
 const GUARD: usize = 16;
 /// The highest number of a refusal.
-const REFUSALS: usize = 18;
+const REFUSALS: usize = 19;
 const RULES: [usize; 15] = [1, 3, 4, 5, 6, 7, 8, 9, 19, 20, 21, 22, 23, 24, 25];
 
 /// Lengths of a buffer for all 256 cells or bytes.
@@ -44,14 +45,105 @@ const BLOCK_LINES: [&str; 13] = [
     "char b\n",
 ];
 
-const CALLS: [&str; 7] = ["compile", "look_up", "page", "typed", "entries", "attribute", "attributes"];
+const CALLS: [&str; 8] = ["compile", "look_up", "page", "windows", "typed", "entries", "attribute", "attributes"];
 const COMPILE: usize = 0;
 const LOOK_UP: usize = 1;
 const PAGE: usize = 2;
-const TYPED: usize = 3;
-const ENTRIES: usize = 4;
-const ATTRIBUTE_CELL: usize = 5;
-const ATTRIBUTE_CELLS: usize = 6;
+const WINDOWS: usize = 3;
+const TYPED: usize = 4;
+const ENTRIES: usize = 5;
+const ATTRIBUTE_CELL: usize = 6;
+const ATTRIBUTE_CELLS: usize = 7;
+
+/// Windows of which every two are put together, so also one and none: starts and widths of 0 to 4, and sums of 2^64.
+const SMALL_WINDOWS: usize = 28;
+
+fn small_window(which: usize) -> Option<Window> {
+    match which {
+        0 => None,
+        1 => Some(Window { start: usize::MAX, width: 1 }),
+        2 => Some(Window { start: 1, width: usize::MAX }),
+        _ => Some(Window { start: (which - 3) / 5, width: (which - 3) % 5 }),
+    }
+}
+
+/// The index behind a window, if it is on a page of that length.
+fn end_on(window: &Window, length: usize) -> Option<usize> {
+    window.start.checked_add(window.width).filter(|end| *end <= length)
+}
+
+/// The widths together of the windows that are on a page of that length.
+fn widths_on(windows: &[Window], length: usize) -> usize {
+    windows.iter().filter(|window| end_on(window, length).is_some()).map(|window| window.width).sum()
+}
+
+/// What a windows call may meet: how it ends, and what else there is to tell apart.
+const WINDOWS_MEET: usize = 18;
+
+fn windows_meet(
+    words: &[u32],
+    characters: &[u32],
+    windows: &[Window],
+    [cells, rules]: [usize; 2],
+    answer: Result<(), Refusal>,
+) -> [(&'static str, bool); WINDOWS_MEET] {
+    let page = characters.len();
+    let (number, place) = answer.map_or_else(|refusal| (refusal.number, refusal.place as usize), |()| (0, 0));
+    let beyond = windows.iter().filter(|window| end_on(window, page).is_none()).count();
+    let wraps = |window: &Window| window.start.checked_add(window.width).is_none();
+    let holds = |window: &Window| window.start <= place && place - window.start < window.width;
+    let share =
+        |one: &Window, other: &Window| Some(one.start.max(other.start)) < end_on(one, page).min(end_on(other, page));
+    let overlaps = |(k, window): (usize, &Window)| windows[..k].iter().any(|earlier| share(earlier, window));
+    let widths = widths_on(windows, page);
+    let short_table = number == 2 && words.len() < WORDS;
+    let short = number == 2 && !short_table;
+    let accepted = number == 0;
+    [
+        ("refusal 2 for the table", short_table),
+        ("  a window beyond too", short_table && beyond > 0),
+        ("refusal 15", number == 15),
+        ("  a window beyond too", number == 15 && beyond > 0),
+        ("refusal 19", number == 19),
+        ("  by a sum over 2^64 - 1", number == 19 && windows.get(place).is_some_and(wraps)),
+        ("  a further window beyond", number == 19 && beyond > 1),
+        ("  buffers short too", number == 19 && cells.min(rules) < widths),
+        ("refusal 2 for the buffers", short),
+        ("  cells alone", short && widths <= rules),
+        ("  rules alone", short && widths <= cells),
+        ("  no scalar too", short && !characters.iter().all(|character| reference::scalar(*character))),
+        ("refusal 14", number == 14),
+        ("  outside all windows", number == 14 && !windows.iter().any(holds)),
+        ("accepted", accepted),
+        ("  windows that overlap", accepted && windows.iter().enumerate().any(overlaps)),
+        ("  an empty window at the page's end", accepted && windows.contains(&Window { start: page, width: 0 })),
+        ("  buffers shorter than the page", accepted && cells.max(rules) < page),
+    ]
+}
+
+/// A call that fills a cell and a rule buffer.
+type Fill<'a> = &'a dyn Fn(&Side, &mut [u8], &mut [u8]) -> Result<(), Refusal>;
+
+/// A cell and a rule buffer, each between guards.
+#[derive(Clone, PartialEq)]
+struct Buffers([Vec<u8>; 2]);
+
+impl Buffers {
+    fn lengths(&self) -> [usize; 2] {
+        self.0.each_ref().map(|buffer| buffer.len() - 2 * GUARD)
+    }
+
+    /// The answer of a side, and the buffers after its call.
+    fn filled(&self, side: &Side, fill: Fill) -> (Result<(), Refusal>, Buffers) {
+        let mut buffers = self.clone();
+        let [cells, rules] = buffers.0.each_mut().map(|buffer| {
+            let end = buffer.len() - GUARD;
+            &mut buffer[GUARD..end]
+        });
+        let answer = fill(side, cells, rules);
+        (answer, buffers)
+    }
+}
 
 struct Run {
     sides: Vec<Side>,
@@ -59,6 +151,9 @@ struct Run {
     case: String,
     calls: [u64; CALLS.len()],
     refusals: [[u64; REFUSALS + 1]; CALLS.len()],
+    windows_met: [(&'static str, u64); WINDOWS_MEET],
+    /// Page calls beside accepted windows calls.
+    pages_beside: u64,
     rules: [u64; 32],
     links: u32,
     texts: Share,
@@ -303,42 +398,74 @@ impl Run {
         );
     }
 
-    fn page(&mut self, words: &[u32], characters: &[u32], cells_length: usize, rules_length: usize) {
-        let cells_before = self.random_bytes(cells_length + 2 * GUARD);
-        let rules_before = self.random_bytes(rules_length + 2 * GUARD);
-        let (cells_inside, rules_inside) = (GUARD..GUARD + cells_length, GUARD..GUARD + rules_length);
-        let (mut cells, mut rules) = (cells_before.clone(), rules_before.clone());
-        let answer =
-            reference::page(words, characters, &mut cells[cells_inside.clone()], &mut rules[rules_inside.clone()]);
-        self.tally(PAGE, &answer);
-        if answer.is_ok() {
-            for rule in &rules[GUARD..GUARD + characters.len()] {
-                self.rules[usize::from(*rule)] += 1;
-            }
-        }
+    /// Whether every side fills the buffers as expected, and answers so.
+    fn fill_as(
+        &mut self,
+        call: usize,
+        before: &Buffers,
+        fill: Fill,
+        (answer, after): &(Result<(), Refusal>, Buffers),
+        input: &dyn Fn() -> String,
+    ) {
         for side in self.sides.clone() {
-            let (mut other_cells, mut other_rules) = (cells_before.clone(), rules_before.clone());
-            let other = (side.page)(
-                words,
-                characters,
-                &mut other_cells[cells_inside.clone()],
-                &mut other_rules[rules_inside.clone()],
-            );
-            if other != answer || other_cells != cells || other_rules != rules {
-                let memory =
-                    if other_cells != cells || other_rules != rules { "buffers differ" } else { "buffers agree" };
-                self.differ(&side, PAGE, answer, other, || {
-                    format!(
-                        "{memory}, buffers of {cells_length} and {rules_length}, characters {characters:X?}, {}",
-                        Self::table_shown(words)
-                    )
+            let (other, got) = before.filled(&side, fill);
+            if other != *answer || got != *after {
+                let memory = if got == *after { "buffers agree" } else { "buffers differ" };
+                let [cells, rules] = before.lengths();
+                self.differ(&side, call, answer, other, || {
+                    format!("{memory}, buffers of {cells} and {rules}, {}", input())
                 });
             }
         }
     }
 
-    /// A page of some characters, at times with short buffers or with a character that is no scalar.
-    fn any_page(&mut self, words: &[u32], alphabet: &[u32]) {
+    /// One call that fills buffers of these lengths; answers them as they were, the answer, and them after it.
+    fn showing(
+        &mut self,
+        call: usize,
+        lengths: [usize; 2],
+        fill: Fill,
+        input: &dyn Fn() -> String,
+    ) -> (Buffers, (Result<(), Refusal>, Buffers)) {
+        let before = Buffers(lengths.map(|length| self.random_bytes(length + 2 * GUARD)));
+        let expected = before.filled(&REFERENCE, fill);
+        self.tally(call, &expected.0);
+        self.fill_as(call, &before, fill, &expected, input);
+        (before, expected)
+    }
+
+    fn page(&mut self, words: &[u32], characters: &[u32], cells: usize, rules: usize) {
+        let fill = |side: &Side, cells: &mut [u8], rules: &mut [u8]| (side.page)(words, characters, cells, rules);
+        let input = || format!("characters {characters:X?}, {}", Self::table_shown(words));
+        let (_, (answer, after)) = self.showing(PAGE, [cells, rules], &fill, &input);
+        if answer.is_ok() {
+            for rule in &after.0[1][GUARD..GUARD + characters.len()] {
+                self.rules[usize::from(*rule)] += 1;
+            }
+        }
+    }
+
+    /// A windows call, and where it is accepted one page call for each window.
+    fn windows(&mut self, words: &[u32], characters: &[u32], windows: &[Window], lengths: [usize; 2]) {
+        let at_once =
+            |side: &Side, cells: &mut [u8], rules: &mut [u8]| (side.windows)(words, characters, windows, cells, rules);
+        let one_by_one = |side: &Side, cells: &mut [u8], rules: &mut [u8]| {
+            side.page_by_window(words, characters, windows, cells, rules)
+        };
+        let input = || format!("windows {windows:X?}, characters {characters:X?}, {}", Self::table_shown(words));
+        let (before, expected) = self.showing(WINDOWS, lengths, &at_once, &input);
+        if expected.0.is_ok() {
+            self.fill_as(PAGE, &before, &one_by_one, &expected, &|| format!("beside a windows call, {}", input()));
+            self.pages_beside += windows.len() as u64;
+        }
+        let met = windows_meet(words, characters, windows, lengths, expected.0);
+        for (count, (name, met)) in self.windows_met.iter_mut().zip(met) {
+            *count = (name, count.1 + u64::from(met));
+        }
+    }
+
+    /// A page's characters; of 80 pages in a hundred all are scalars, of the others most.
+    fn characters(&mut self, alphabet: &[u32]) -> Vec<u32> {
         let length = match self.random.below(8) {
             0 => 0,
             1 => self.random.between(20, 80),
@@ -352,6 +479,13 @@ impl Run {
                 characters.push(drawn);
             }
         }
+        characters
+    }
+
+    /// A page of some characters, at times with short buffers or with a character that is no scalar.
+    fn any_page(&mut self, words: &[u32], alphabet: &[u32]) {
+        let characters = self.characters(alphabet);
+        let length = characters.len();
         let mut buffer = || match self.random.below(20) {
             0 => self.random.below(length + 1),
             1..=5 => length + self.random.between(1, 9),
@@ -361,12 +495,34 @@ impl Run {
         self.page(words, &characters, cells, rules);
     }
 
+    /// Windows of a page, at times beyond it, with short buffers or with characters that are no scalars.
+    fn any_windows(&mut self, words: &[u32], alphabet: &[u32]) {
+        let mut characters = self.characters(alphabet);
+        let length = characters.len();
+        if length > 0 && self.random.percent(25) {
+            for _ in 0..self.random.between(1, 3) {
+                characters[self.random.below(length)] = generate::non_scalar(&mut self.random);
+            }
+        }
+        let windows = generate::windows(&mut self.random, length);
+        let widths = widths_on(&windows, length);
+        let lengths = [(); 2].map(|()| match self.random.below(20) {
+            0 => 0,
+            1 | 2 => widths.saturating_sub(1),
+            3 => length,
+            4..=8 => widths + self.random.between(1, 9),
+            _ => widths,
+        });
+        self.windows(words, &characters, &windows, lengths);
+    }
+
     /// A few calls on a lent slice.
     fn lent(&mut self, words: &[u32], alphabet: &[u32]) {
-        match self.random.below(8) {
+        match self.random.below(10) {
             0..=2 => self.page(words, &[], 0, 0),
             3 | 4 => self.any_page(words, alphabet),
-            5 | 6 => {
+            5 | 6 => self.any_windows(words, alphabet),
+            7 | 8 => {
                 let character = generate::query(&mut self.random, alphabet);
                 self.look_up(words, character);
             }
@@ -415,6 +571,9 @@ impl Run {
             self.look_up(&words, character);
         }
         self.any_page(&words, &text.alphabet);
+        for _ in 0..2 {
+            self.any_windows(&words, &text.alphabet);
+        }
         if all_cells {
             self.typed_all(&words);
         } else {
@@ -493,6 +652,8 @@ fn main() {
         case: String::new(),
         calls: [0; CALLS.len()],
         refusals: [[0; REFUSALS + 1]; CALLS.len()],
+        windows_met: [("", 0); WINDOWS_MEET],
+        pages_beside: 0,
         rules: [0; 32],
         links: 0,
         texts: Share::default(),
@@ -541,6 +702,12 @@ fn main() {
         assert_eq!(count, Some(links + 1));
         run.look_up(&words, 0x400);
         run.page(&words, &[0x400, 0xF041, 0x401], 3, 3);
+        run.windows(
+            &words,
+            &[0x401, 0xF041, 0x400],
+            &[Window { start: 2, width: 1 }, Window { start: 0, width: 3 }],
+            [4, 4],
+        );
         run.compile(format!("{text}alias \\u0400 a\n").as_bytes(), WORDS);
     });
     part("tables", 6, TABLES, &|run, case| {
@@ -555,6 +722,39 @@ fn main() {
         if case % 400 == 0 {
             let length = run.short_length();
             run.typed_all(&words[..length]);
+        }
+    });
+    part("windows", 12, TABLES_FOR_WINDOWS, &|run, _| {
+        let mut words = vec![0; run.length_of_slice()];
+        let alphabet = generate::any_table(&mut run.random, &mut words[..WORDS]);
+        if run.random.percent(10) {
+            let length = run.short_length();
+            words.truncate(length);
+        }
+        for _ in 0..4 {
+            run.any_windows(&words, &alphabet);
+        }
+    });
+    part("any two windows", 13, (SMALL_WINDOWS as u64).pow(2), &|run, case| {
+        let case = case as usize;
+        let windows: Vec<Window> =
+            [case % SMALL_WINDOWS, case / SMALL_WINDOWS].into_iter().filter_map(small_window).collect();
+        let (sound, _) = run.compile(b"char a 1\nchar b 12\n", WORDS);
+        let mut broken = sound.clone();
+        broken[3] = 0;
+        // Pages of up to three characters, each shown by its own cell and rule or no scalar.
+        for length in 0..=3 {
+            for damaged in 0..1 << length {
+                let character = |k: usize| if damaged >> k & 1 == 1 { 0xD800 } else { [0x61, 0x2806, 0xF062][k] };
+                let page: Vec<u32> = (0..length).map(character).collect();
+                for lengths in 0..64 {
+                    run.windows(&sound, &page, &windows, [lengths / 8, lengths % 8]);
+                }
+                for lengths in [[0, 0], [7, 7]] {
+                    run.windows(&broken, &page, &windows, lengths);
+                    run.windows(&sound[..WORDS - 1], &page, &windows, lengths);
+                }
+            }
         }
     });
     part("any five lines", 11, (BLOCK_LINES.len() as u64).pow(5), &|run, case| {
@@ -591,6 +791,9 @@ fn main() {
         assert!(count.is_some());
         let page: Vec<u32> = (0..0x11_0000).filter(|character| reference::scalar(*character)).collect();
         run.page(&words, &page, page.len(), page.len());
+        let half = page.len() / 2;
+        let halves = [Window { start: half, width: page.len() - half }, Window { start: 0, width: half }];
+        run.windows(&words, &page, &halves, [page.len(); 2]);
         for character in (0xD7FF..=0xE000).chain(0x10_FFFF..0x11_0100).chain(0..0x180) {
             run.look_up(&words, character);
         }
@@ -633,6 +836,13 @@ fn main() {
         }
     }
     let others: u64 = (0..run.rules.len()).filter(|rule| !RULES.contains(rule)).map(|rule| run.rules[rule]).sum();
+    println!("windows calls: {}, {} page calls beside those accepted", run.calls[WINDOWS], run.pages_beside);
+    for (name, count) in run.windows_met {
+        println!("  {name:<40} {count:>12}");
+        if count < LEAST {
+            short.push(format!("windows call, {}", name.trim()));
+        }
+    }
     println!("time {:.1} s, differences {}", begun.elapsed().as_secs_f64(), run.differences);
 
     let mut failed = false;

@@ -1,7 +1,7 @@
-//! The worked examples and edges of document 01, the blocks of document 02 and the settled readings, with the answers
-//! written out, on every side.
+//! The worked examples and edges of document 01, the blocks and windows of document 02 and the settled readings, with the
+//! answers written out, on every side.
 
-use harness::reference::{self, Place, Refusal, Shown, WORDS};
+use harness::reference::{self, Place, Refusal, Shown, Window, WORDS};
 use harness::side::SIDES;
 use std::fmt::Debug;
 
@@ -731,6 +731,198 @@ fn pages() {
         assert_eq!((cells, rules), ([1, 9, 1, 9], [3, 1, 19, 8, 8]), "{}", side.name);
         assert_eq!((side.look_up)(&words, 0xD800).map_err(pair), Err((14, 0)), "{}", side.name);
     }
+}
+
+/// Windows by start and width.
+type List<'a> = &'a [(usize, usize)];
+
+/// `a`, `b`, `A`, `æ`, `é` and U+2809, which show 01, 03, 41, 01, 39 and 09 by `SMALL`.
+const PAGE: [u32; 6] = [0x61, 0x62, 0x41, 0xE6, 0xE9, 0x2809];
+
+/// Cells and rules.
+type Written<'a> = (&'a [u8], &'a [u8]);
+
+/// Asks every side for windows, with buffers of these lengths, and looks at the answer and the buffers: what is written
+/// from their front, or number and place and nothing written.
+fn windows_are(
+    words: &[u32],
+    page: &[u32],
+    windows: List,
+    [cells_length, rules_length]: [usize; 2],
+    answer: Result<Written, (u32, u32)>,
+) {
+    let list: Vec<Window> = windows.iter().map(|&(start, width)| Window { start, width }).collect();
+    let (cells_written, rules_written) = answer.unwrap_or_default();
+    let after = |written: &[u8], length: usize, pattern: u8| {
+        let mut buffer = vec![pattern; length];
+        buffer[..written.len()].copy_from_slice(written);
+        buffer
+    };
+    for side in SIDES {
+        let (mut cells, mut rules) = (vec![0xA5; cells_length], vec![0x5A; rules_length]);
+        let got = (side.windows)(words, page, &list, &mut cells, &mut rules).map_err(pair);
+        let input =
+            || format!("{}: {:X?} of {:X?}", side.name, &windows[..windows.len().min(9)], &page[..page.len().min(9)]);
+        assert_eq!(got, answer.map(|_| ()), "{} {cells_length} {rules_length}", input());
+        assert_eq!(cells, after(cells_written, cells_length, 0xA5), "{}", input());
+        assert_eq!(rules, after(rules_written, rules_length, 0x5A), "{}", input());
+    }
+}
+
+#[test]
+fn windows() {
+    let words = compiled(SMALL.as_bytes());
+    let all: Written = (&[0x01, 0x03, 0x41, 0x01, 0x39, 0x09], &[3, 3, 3, 6, 8, 1]);
+    let examples: &[(List, &[u8], &[u8])] = &[
+        (&[], &[], &[]),
+        (&[(0, 6)], all.0, all.1),
+        (&[(3, 1)], &[0x01], &[6]),
+        // One after another, in the order of the list and not of the page.
+        (&[(1, 2), (4, 1)], &[0x03, 0x41, 0x39], &[3, 3, 8]),
+        (&[(4, 1), (1, 2)], &[0x39, 0x03, 0x41], &[8, 3, 3]),
+        (&[(5, 1), (4, 1), (3, 1), (0, 1)], &[0x09, 0x39, 0x01, 0x01], &[1, 8, 6, 3]),
+        (&[(0, 3), (3, 3)], all.0, all.1),
+        // Overlapping, one in the other, the same twice, more than the page together.
+        (&[(0, 3), (1, 3)], &[0x01, 0x03, 0x41, 0x03, 0x41, 0x01], &[3, 3, 3, 3, 3, 6]),
+        (&[(2, 4), (4, 1)], &[0x41, 0x01, 0x39, 0x09, 0x39], &[3, 6, 8, 1, 8]),
+        (&[(5, 1), (5, 1)], &[0x09, 0x09], &[1, 1]),
+        (
+            &[(0, 6), (1, 5)],
+            &[0x01, 0x03, 0x41, 0x01, 0x39, 0x09, 0x03, 0x41, 0x01, 0x39, 0x09],
+            &[3, 3, 3, 6, 8, 1, 3, 3, 6, 8, 1],
+        ),
+        // Empty ones anywhere, also at the very end of the page.
+        (&[(0, 0)], &[], &[]),
+        (&[(6, 0)], &[], &[]),
+        (&[(0, 0), (2, 1), (3, 0), (6, 0), (4, 1), (6, 0)], &[0x41, 0x39], &[3, 8]),
+    ];
+    for (list, cells, rules) in examples {
+        let widths = cells.len();
+        // Buffers that just hold the widths, whatever the page's length; longer ones, whose other bytes stay.
+        for lengths in [[widths, widths], [widths + 1, widths], [widths, widths + 9], [widths + 7, widths + 3]] {
+            windows_are(&words, &PAGE, list, lengths, Ok((cells, rules)));
+        }
+        if widths > 0 {
+            for lengths in [[widths - 1, widths], [widths, widths - 1], [widths - 1, widths - 1], [0, 99], [99, 0]] {
+                windows_are(&words, &PAGE, list, lengths, Err((2, 0)));
+            }
+        }
+    }
+    windows_are(&words, &[], &[], [0, 0], Ok((&[], &[])));
+    windows_are(&words, &[], &[(0, 0), (0, 0)], [1, 0], Ok((&[], &[])));
+    windows_are(&compiled(b""), &[0x61], &[(0, 1), (0, 1)], [2, 2], Ok((&[0xFF, 0xFF], &[9, 9])));
+}
+
+#[test]
+fn windows_beyond() {
+    let words = compiled(SMALL.as_bytes());
+    let examples: &[(List, u32)] = &[
+        (&[(0, 7)], 0),
+        (&[(1, 6)], 0),
+        (&[(5, 2)], 0),
+        (&[(6, 1)], 0),
+        (&[(7, 0)], 0),
+        (&[(100, 0)], 0),
+        // Numbered from 0, the first of several, empty ones counted.
+        (&[(0, 6), (0, 7)], 1),
+        (&[(6, 0), (6, 0), (7, 0)], 2),
+        (&[(0, 1), (6, 1), (9, 9), (0, 1)], 1),
+        (&[(9, 0), (0, 7)], 0),
+        (&[(0, 0), (0, 6), (0, 6), (3, 3), (3, 4), (0, 0)], 4),
+        // True sums.
+        (&[(usize::MAX, 0)], 0),
+        (&[(usize::MAX, 1)], 0),
+        (&[(usize::MAX, 2)], 0),
+        (&[(1, usize::MAX)], 0),
+        (&[(6, usize::MAX)], 0),
+        (&[(0, usize::MAX)], 0),
+        (&[(usize::MAX, usize::MAX)], 0),
+        (&[(1 << 63, 1 << 63)], 0),
+        (&[(0, 1), (1 << 63 | 1, 1 << 63)], 1),
+        (&[(1 << 32, 1)], 0),
+        (&[(0, 1 << 32)], 0),
+        (&[(0, 1), (1, usize::MAX), (0, usize::MAX)], 1),
+    ];
+    for (list, number) in examples {
+        for lengths in [[99, 99], [0, 0], [99, 0], [0, 99]] {
+            windows_are(&words, &PAGE, list, lengths, Err((19, *number)));
+        }
+    }
+    windows_are(&words, &[], &[(0, 0), (0, 1)], [9, 9], Err((19, 1)));
+    windows_are(&words, &[], &[(1, 0)], [9, 9], Err((19, 0)));
+    let mut many = vec![(6, 0); 70_000];
+    windows_are(&words, &PAGE, &many, [0, 0], Ok((&[], &[])));
+    many.push((6, 1));
+    windows_are(&words, &PAGE, &many, [0, 0], Err((19, 70_000)));
+}
+
+/// A page whose first number is no scalar. The others take no memory as long as nobody reads them.
+fn hardly_there(length: usize) -> Option<&'static [u32]> {
+    extern "C" {
+        fn mmap(at: *mut u32, bytes: usize, access: i32, flags: i32, file: i32, offset: i64) -> *mut u32;
+    }
+    const READ_AND_WRITE: i32 = 1 | 2;
+    const PRIVATE_ANONYMOUS_NORESERVE: i32 = 0x2 | 0x20 | 0x4000;
+    // SAFETY: new memory, all zero, that nobody else has and nobody gives back.
+    unsafe {
+        let page = mmap(std::ptr::null_mut(), 4 * length, READ_AND_WRITE, PRIVATE_ANONYMOUS_NORESERVE, -1, 0);
+        if page as isize == -1 {
+            return None;
+        }
+        *page = 0xD800;
+        Some(std::slice::from_raw_parts(page, length))
+    }
+}
+
+#[test]
+fn widths_together() {
+    // Sums of 2^32 and 2^64. A page that large is refused by 2 before anybody reads it; a wrapped sum makes it 14.
+    let words = compiled(SMALL.as_bytes());
+    windows_are(&words, &[0xD800; 1 << 16], &vec![(0, 1 << 16); 1 << 16], [9, 9], Err((2, 0)));
+    match hardly_there(1 << 43) {
+        Some(page) => windows_are(&words, page, &vec![(0, 1 << 43); 1 << 21], [9, 9], Err((2, 0))),
+        None => println!("widths of 2^64 together: not tried, there is no address space of 32 TiB"),
+    }
+}
+
+#[test]
+fn windows_in_order() {
+    let words = compiled(SMALL.as_bytes());
+    let mut broken = words.clone();
+    broken[4] = 0x61;
+    // Two numbers that are no scalars, at 2 and 4.
+    let damaged = [0x61, 0x62, 0xD800, 0xE6, 0x11_0000, 0x2809];
+    let beyond: List = &[(0, 1), (5, 2)];
+    let inside: List = &[(0, 1), (5, 1)];
+    for page in [PAGE, damaged] {
+        for list in [beyond, inside, &[]] {
+            for lengths in [[0, 0], [1, 2], [2, 1], [2, 2], [9, 9]] {
+                windows_are(&words[..WORDS - 1], &page, list, lengths, Err((2, 0)));
+                windows_are(&[], &page, list, lengths, Err((2, 0)));
+                windows_are(&broken[..WORDS - 1], &page, list, lengths, Err((2, 0)));
+                windows_are(&broken, &page, list, lengths, Err((15, 2)));
+                windows_are(&words, &page, beyond, lengths, Err((19, 1)));
+            }
+        }
+        for lengths in [[0, 0], [1, 1], [1, 2], [2, 1], [0, 9], [9, 1]] {
+            windows_are(&words, &page, inside, lengths, Err((2, 0)));
+        }
+    }
+    // Over the whole page, inside the windows or not, and with none.
+    let lists: [List; 7] = [inside, &[], &[(0, 0)], &[(6, 0)], &[(4, 1)], &[(4, 1), (2, 1)], &[(0, 6), (0, 6)]];
+    for list in lists {
+        windows_are(&words, &damaged, list, [12, 12], Err((14, 2)));
+    }
+    windows_are(&words, &damaged[3..], &[(0, 1), (2, 1)], [2, 2], Err((14, 1)));
+    windows_are(&words, &damaged[5..], &[(0, 1)], [1, 1], Ok((&[0x09], &[1])));
+    windows_are(&words, &[0xDFFF], &[], [0, 0], Err((14, 0)));
+    windows_are(&words, &[0xDFFF], &[(1, 0)], [0, 0], Err((14, 0)));
+    windows_are(&words, &[0xDFFF], &[(2, 0)], [0, 0], Err((19, 0)));
+    windows_are(&words, &[0xDFFF], &[(0, 1)], [1, 0], Err((2, 0)));
+    // Words beyond the table are not looked at.
+    let mut longer = words;
+    longer.extend([1, 2, 3]);
+    windows_are(&longer, &PAGE, inside, [2, 2], Ok((&[0x01, 0x09], &[3, 1])));
 }
 
 /// A call for all 256 and its single calls. Buffers of several lengths hold a pattern: a refusal leaves all of it, an

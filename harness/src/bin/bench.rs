@@ -2,7 +2,7 @@
 
 use harness::generate::backward_chain_text;
 use harness::random::Random;
-use harness::reference::{self, Refusal, CELLS, LINE_BYTES, PAIRS, TEXT_BYTES, WORDS};
+use harness::reference::{self, Refusal, Window, CELLS, LINE_BYTES, PAIRS, TEXT_BYTES, WORDS};
 use harness::side::{Side, SIDES};
 use std::ffi::OsString;
 use std::hint::black_box;
@@ -280,6 +280,10 @@ fn falling_page(length: usize) -> Vec<u32> {
     [0xE9, 0x2013, 0x3FFF].into_iter().cycle().take(length).collect()
 }
 
+/// A status strip of 40 characters, a menu of 40 and a line of text of 80 on a page of 2,000.
+const STRIP_MENU_TEXT: [Window; 3] =
+    [Window { start: 1920, width: 40 }, Window { start: 0, width: 40 }, Window { start: 960, width: 80 }];
+
 // Rows.
 
 /// A table and its count of definitions, also as it is shown.
@@ -294,6 +298,24 @@ fn page_row(name: &str, words: &[u32], characters: &[u32]) {
     let buffer = vec![0xA5; characters.len()];
     row(name, [buffer.clone(), buffer], |side, [cells, rules]| {
         (side.page)(black_box(words), black_box(characters), cells, rules)
+    });
+}
+
+/// Buffers that just hold all windows.
+fn buffers_for(windows: &[Window]) -> [Vec<u8>; 2] {
+    let buffer = vec![0xA5; windows.iter().map(|window| window.width).sum()];
+    [buffer.clone(), buffer]
+}
+
+fn windows_row(name: &str, words: &[u32], characters: &[u32], windows: &[Window]) {
+    row(name, buffers_for(windows), |side, [cells, rules]| {
+        (side.windows)(black_box(words), black_box(characters), black_box(windows), cells, rules)
+    });
+}
+
+fn page_by_window_row(name: &str, words: &[u32], characters: &[u32], windows: &[Window]) {
+    row(name, buffers_for(windows), |side, [cells, rules]| {
+        side.page_by_window(black_box(words), black_box(characters), black_box(windows), cells, rules)
     });
 }
 
@@ -378,6 +400,20 @@ fn page_rows(sizes: [Size; 2], forward_chain: &[u32]) {
     page_row("100 characters, each the head of a chain of 1,000", forward_chain, &[0x400; 100]);
 }
 
+fn windows_rows(sizes: [Size; 2]) {
+    heading("windows (with their check)");
+    let ones: Vec<Window> = (0..1000).map(|k| Window { start: 2 * k, width: 1 }).collect();
+    let empty = vec![Window { start: 2000, width: 0 }; 100_000];
+    for (name, words, count) in sizes {
+        let page = mixed_page(2000, count);
+        windows_row(&format!("3 windows of a page of 2,000, {name} definitions"), words, &page, &STRIP_MENU_TEXT);
+        page_by_window_row(&format!("the same by 3 page calls, {name} definitions"), words, &page, &STRIP_MENU_TEXT);
+        windows_row(&format!("1,000 windows of one character, {name} definitions"), words, &page, &ones);
+        page_by_window_row(&format!("the same by 1,000 page calls, {name} definitions"), words, &page, &ones);
+        windows_row(&format!("100,000 empty windows, {name} definitions"), words, &page, &empty);
+    }
+}
+
 fn falling_rows(sizes: [Size; 2]) {
     heading("page of characters that fall to rule 5 and below");
     for (name, _, count) in sizes {
@@ -397,6 +433,7 @@ fn measure() {
     check_rows(&small, &large, &chain, &forward_chain);
     look_up_rows(sizes, &forward_chain);
     page_rows(sizes, &forward_chain);
+    windows_rows(sizes);
     falling_rows(sizes);
     typed_rows(sizes);
     attribute_rows();
