@@ -31,7 +31,8 @@ pub enum Maybe {
     Character(u32),
 }
 
-// What a call that fills what it was lent, or what it hands back, answers: the page call, the typing call.
+// What a call that fills what it was lent, or what it hands back, answers: the page call, also for many windows, and the
+// typing call.
 pub enum Filling {
     Filled,
     Refused(Refusal, usize),
