@@ -284,64 +284,110 @@ fn stands_for(rows: &[u32], c: u32) -> Maybe
     Maybe::Nothing
 }
 
-// The base character of `c`. A row is the first character, the last, and the base of all between.
+// Base characters by ranges. Each test is for the last character of a range; its first stands behind the range before.
+mod bases {
+    use basics::Maybe;
+
+    // From U+00C0 to U+00DF the base is a capital letter, or there is none.
+    pub fn capital(c: u32) -> Maybe
+        requires { ⌜ (0xC0 ≤ c) × (c ≤ 0xDF) ⌝ }
+        ensures { λ r. ⌜ r ≡ baseOf c ⌝ }
+    {
+        if c <= 0xC5 {
+            return Maybe::Character(0x41);
+        }
+        if c <= 0xC6 {
+            return Maybe::Nothing;
+        }
+        if c <= 0xC7 {
+            return Maybe::Character(0x43);
+        }
+        if c <= 0xCB {
+            return Maybe::Character(0x45);
+        }
+        if c <= 0xCF {
+            return Maybe::Character(0x49);
+        }
+        if c <= 0xD0 {
+            return Maybe::Nothing;
+        }
+        if c <= 0xD1 {
+            return Maybe::Character(0x4E);
+        }
+        if c <= 0xD6 {
+            return Maybe::Character(0x4F);
+        }
+        if c <= 0xD8 {
+            return Maybe::Nothing;
+        }
+        if c <= 0xDC {
+            return Maybe::Character(0x55);
+        }
+        if c <= 0xDD {
+            return Maybe::Character(0x59);
+        }
+        Maybe::Nothing
+    }
+
+    // From U+00E0 to U+00FE the base is a small letter, or there is none.
+    pub fn small(c: u32) -> Maybe
+        requires { ⌜ (0xE0 ≤ c) × (c ≤ 0xFE) ⌝ }
+        ensures { λ r. ⌜ r ≡ baseOf c ⌝ }
+    {
+        if c <= 0xE5 {
+            return Maybe::Character(0x61);
+        }
+        if c <= 0xE6 {
+            return Maybe::Nothing;
+        }
+        if c <= 0xE7 {
+            return Maybe::Character(0x63);
+        }
+        if c <= 0xEB {
+            return Maybe::Character(0x65);
+        }
+        if c <= 0xEF {
+            return Maybe::Character(0x69);
+        }
+        if c <= 0xF0 {
+            return Maybe::Nothing;
+        }
+        if c <= 0xF1 {
+            return Maybe::Character(0x6E);
+        }
+        if c <= 0xF6 {
+            return Maybe::Character(0x6F);
+        }
+        if c <= 0xF8 {
+            return Maybe::Nothing;
+        }
+        if c <= 0xFC {
+            return Maybe::Character(0x75);
+        }
+        if c <= 0xFD {
+            return Maybe::Character(0x79);
+        }
+        Maybe::Nothing
+    }
+}
+
+// The base character of `c`, for U+00FF too; below U+00C0 and above U+00FF there is none.
 pub fn base_of(c: u32) -> Maybe
     ensures { λ r. ⌜ r ≡ baseOf c ⌝ }
 {
-    let rows: [u32; 51] = [
-        0xC0,
-        0xC5,
-        0x41,
-        0xC7,
-        0xC7,
-        0x43,
-        0xC8,
-        0xCB,
-        0x45,
-        0xCC,
-        0xCF,
-        0x49,
-        0xD1,
-        0xD1,
-        0x4E,
-        0xD2,
-        0xD6,
-        0x4F,
-        0xD9,
-        0xDC,
-        0x55,
-        0xDD,
-        0xDD,
-        0x59,
-        0xE0,
-        0xE5,
-        0x61,
-        0xE7,
-        0xE7,
-        0x63,
-        0xE8,
-        0xEB,
-        0x65,
-        0xEC,
-        0xEF,
-        0x69,
-        0xF1,
-        0xF1,
-        0x6E,
-        0xF2,
-        0xF6,
-        0x6F,
-        0xF9,
-        0xFC,
-        0x75,
-        0xFD,
-        0xFD,
-        0x79,
-        0xFF,
-        0xFF,
-        0x79,
-    ];
-    stands_for(&rows, c)
+    if c < 0xC0 {
+        return Maybe::Nothing;
+    }
+    if c <= 0xDF {
+        return bases::capital(c);
+    }
+    if c <= 0xFE {
+        return bases::small(c);
+    }
+    if c <= 0xFF {
+        return Maybe::Character(0x79);
+    }
+    Maybe::Nothing
 }
 
 // The ASCII stand-in of `c`.
