@@ -1,5 +1,5 @@
 -- What stands for all characters of a range by rows of three numbers.
-use Prim.Native.Nat.{ℕ, _≤_, _<_}
+use Prim.Native.Nat.{ℕ, _≤_}
 use mathlib.Core.Path.{_≡_, refl, sym, ap}
 use mathlib.Core.Bool.{Bool, true, false, not, _&&_, _||_, and-false}
 use mathlib.Core.List.{List, [], _∷_}
@@ -29,13 +29,16 @@ is-other : (x : Maybe) (other : ℕ) → ifCharacter x false (eqb other) ≡ tru
 is-other Nothing other h = cc
 is-other (Character d) other h = ap Character (sym (eqb-true other d h))
 
+-- c is one of the range
 module _ (lo hi c : ℕ) (low : lo ≤ c) (high : c ≤ hi) where
+  -- a row that holds nothing of the range
   row-without : (first last : ℕ) → (ltb hi first || ltb last lo) ≡ true → between first last c ≡ false
   row-without first last h =
       by-cases (ltb hi first)
       (λ e. let l = ltb-true hi first e in rw (lt-leb first c (omega arith)))
       (λ e. let l = ltb-true last lo (rw e at h) in rw (lt-leb c last (omega arith), and-false))
 
+  -- a row that holds all of it
   row-with : (first last : ℕ) → first ≤ lo → hi ≤ last → between first last c ≡ true
   row-with first last l h = rw (le-leb first c (omega arith), le-leb c last (omega arith))
 
@@ -52,6 +55,6 @@ module _ (lo hi c : ℕ) (low : lo ≤ c) (high : c ≤ hi) where
       let ends = both (leb hi last) (ifCharacter x false (eqb other)) (begins .1) in
       rw (row-with first last (leb-true first lo (begins .0)) (leb-true hi last (ends .0))) (is-other x other (ends .1)))
 
--- a base that stands for all of a range is that of each
+-- the base of all characters of a range is that of each
 pub on-range : (lo hi : ℕ) {x : Maybe} {c : ℕ} → throughout bases lo hi x ≡ true → lo ≤ c → c ≤ hi → x ≡ baseOf c
 on-range lo hi {x} {c} h low high = stands-throughout lo hi c low high bases x h
