@@ -371,7 +371,7 @@ mod bases {
     }
 }
 
-// The base character of `c`, for U+00FF too; below U+00C0 and above U+00FF there is none.
+// The base character of `c`; there is none below U+00C0 or above U+00FF.
 pub fn base_of(c: u32) -> Maybe
     ensures { λ r. ⌜ r ≡ baseOf c ⌝ }
 {
