@@ -1,17 +1,17 @@
 -- One line more, and the lines of a text one after another.
-use Prim.Native.Nat.{ℕ, _-_, _*_, _≤_, _<_}
+use Prim.Native.Nat.{ℕ, _+_, _-_, _*_, _≤_, _<_}
 use mathlib.Core.Path.{_≡_, refl}
 use mathlib.Core.List.{List}
 use native.Mathlib.Omega.{arith}
 use lib.ListN.{length, take}
 use borrow.Author.Tests.{lt-ltb, le-ltb}
 use Rattle.basics.specs.declared.Refusal.{Refusal}
-use Rattle.basics.specs.declared.Refusal.the-variants.{TextTooLong}
+use Rattle.basics.specs.declared.Refusal.the-variants.{TextTooLong, LineTooLong}
 use Rattle.lines.specs.Lines.{withoutCR}
-use Rattle.lines.specs.Texts.{textLimit, Step, rejected, runText, compiledReply}
+use Rattle.lines.specs.Texts.{textLimit, lineLimit, openingOf, Step, stop, rejected, runText, outcomeColumn, compiledReply, compiledColumn}
 use Rattle.lines.specs.declared.Compiled.{Compiled}
 use Rattle.lines.specs.declared.Compiled.the-variants.{Accepted, Refused}
-use Rattle.lines.proofs.Texts.{Reached, lines-read}
+use Rattle.lines.proofs.Texts.{Reached, lines-read, run-column}
 use Rattle.attributes.specs.Cells.{allUnnamed}
 use Rattle.attributes.specs.Compile.{dotStates, readDotLine, withDot, dotStep, compiledAttributes, attributesReply, outcomePlaces}
 use Rattle.attributes.specs.Internal.{DotWithin}
@@ -41,17 +41,27 @@ pub come-first : (text : List ℕ) → length text ≤ textLimit → Reached dot
 unfolding compiledAttributes runText
 come-first text short = record { within = omega arith; count = omega arith; left = rw (le-ltb _ _ short) }
 
--- what the call is to ensure: its answer, and the places
+-- what the call is to ensure: its answer, the column, and the places
 abbrev Ensured : List ℕ → Compiled → List Place → Type 0
-Ensured text answer places = (compiledReply answer ≡ attributesReply (compiledAttributes text)) × (places ≡ outcomePlaces (compiledAttributes text))
+Ensured text answer places =
+    (compiledReply answer ≡ attributesReply (compiledAttributes text)) × ((compiledColumn answer ≡ outcomeColumn (compiledAttributes text)) × (places ≡ outcomePlaces (compiledAttributes text)))
 
 pub accepted-places : (text : List ℕ) (at n : ℕ) (f : DotStates) → Reached dotStep text (compiledAttributes text) at n f → length text ≤ at → Ensured text (Accepted (f .lines)) (f .places)
-accepted-places text at n f here h = rw (lines-read dotStep text (compiledAttributes text) at n f here h) (refl, refl)
+accepted-places text at n f here h = rw (lines-read dotStep text (compiledAttributes text) at n f here h) (refl, (refl, refl))
 
-pub refused-places : (text : List ℕ) {refusal : Refusal} {n : ℕ} {answer : Compiled} {places : List Place}
-    → compiledAttributes text ≡ rejected refusal n → answer ≡ Refused refusal n → places ≡ allUnnamed → Ensured text answer places
-refused-places text q e p = (rw (q, e), rw (q, p))
+pub refused-places : (text : List ℕ) {refusal : Refusal} {n column : ℕ} {answer : Compiled} {places : List Place}
+    → compiledAttributes text ≡ rejected refusal n column → answer ≡ Refused refusal n column → places ≡ allUnnamed → Ensured text answer places
+refused-places text q e p = (rw (q, e), (rw (q, e), rw (q, p)))
 
-pub long-text : (text : List ℕ) → textLimit < length text → compiledAttributes text ≡ rejected TextTooLong 0
+pub long-text : (text : List ℕ) → textLimit < length text → compiledAttributes text ≡ rejected TextTooLong 0 0
 unfolding compiledAttributes runText
 long-text text h = rw (lt-ltb _ _ h)
+
+step-long : (f : DotStates) (line : List ℕ) → lineLimit < length line → dotStep f line ≡ stop LineTooLong (length line - lineLimit)
+unfolding dotStep readDotLine openingOf
+step-long f line h = rw (lt-ltb lineLimit (length line) h)
+
+-- no column lies beyond the first byte that a line has too many
+pub attributes-column : (text : List ℕ) → outcomeColumn (compiledAttributes text) ≤ lineLimit + 1
+unfolding compiledAttributes
+attributes-column text = run-column dotStep step-long (dotStates allUnnamed 0) text

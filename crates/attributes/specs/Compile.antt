@@ -29,12 +29,12 @@ isNamed (Off name) = true
 unfoldable pub readDotLine : List ℕ → DotLine
 readDotLine line = ifDirective (openingOf line) Fault Skip (dotLine line)
 
--- a dot has one line at most
+-- a dot has one line at most; a second is at fault at its word `dot`
 abbrev pub withDot : DotStates → DotLine → Step DotStates
-withDot f (Fault refusal left) = stop refusal
+withDot f (Fault refusal left) = stop refusal left
 withDot f Skip = next f
 withDot f (Dot dot state left) =
-    pick (isNamed (getD (f .places) dot (place Unnamed) .state)) (stop AlreadyDefined)
+    pick (isNamed (getD (f .places) dot (place Unnamed) .state)) (stop AlreadyDefined left)
     (next (dotStates (set (f .places) dot (place state)) (f .lines + 1)))
 
 unfoldable pub dotStep : DotStates → List ℕ → Step DotStates
@@ -51,4 +51,4 @@ attributesReply outcome = outcomeReply (λ (f : DotStates). f .lines) outcome
 -- a refused table answers one with all dots unnamed
 abbrev pub outcomePlaces : Outcome DotStates → List Place
 outcomePlaces (accepted f) = f .places
-outcomePlaces (rejected refusal line) = allUnnamed
+outcomePlaces (rejected refusal line column) = allUnnamed

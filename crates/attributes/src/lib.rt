@@ -12,7 +12,7 @@ ghost use Rattle.attributes.specs.Reader.{signed, backgroundState, named
 ghost use Rattle.attributes.specs.Compile.{isNamed, readDotLine, withDot, dotStep, compiledAttributes, attributesReply, outcomePlaces};
 ghost use Rattle.attributes.specs.Internal.{DotWithin};
 ghost use Rattle.lines.specs.Lines.{withoutCR};
-ghost use Rattle.lines.specs.Texts.{textLimit, compiledReply};
+ghost use Rattle.lines.specs.Texts.{textLimit, outcomeColumn, compiledReply, compiledColumn};
 ghost use Rattle.lines.specs.Internal.{leaves};
 
 // The eight attribute bits.
@@ -289,21 +289,21 @@ fn with_dot(f: DotStates, read: DotLine) -> Stepped
     ensures { λ r. ⌜ r .states .lines ≤ f .lines + 1 ⌝ }
 {
     match read {
-        DotLine::Fault(refusal, _) => Stepped {
-            stopped: Stopped::By(refusal),
+        DotLine::Fault(refusal, left) => Stepped {
+            stopped: Stopped::By(refusal, left),
             states: f,
         },
         DotLine::Skip => Stepped {
             stopped: Stopped::No,
             states: f,
         },
-        DotLine::Dot(dot, state, _) => {
+        DotLine::Dot(dot, state, left) => {
             let mut places = f.places;
             let old = places[dot];
             let before = old.state;
             if is_named(before) {
                 return Stepped {
-                    stopped: Stopped::By(Refusal::AlreadyDefined),
+                    stopped: Stopped::By(Refusal::AlreadyDefined, left),
                     states: f,
                 };
             }
@@ -330,11 +330,15 @@ fn dot_step(f: DotStates, line: &[u8]) -> Stepped
 }
 
 // A refused table: all dots unnamed.
-fn refused_table(refusal: Refusal, line: usize) -> Attributes
-    ensures { λ r. ⌜ (r .answer ≡ Compiled.Refused refusal line) × (r .places ≡ allUnnamed) ⌝ }
+fn refused_table(refusal: Refusal, line: usize, column: usize) -> Attributes
+    ensures { λ r. ⌜ (r .answer ≡ Compiled.Refused refusal line column) × (r .places ≡ allUnnamed) ⌝ }
 {
     Attributes {
-        answer: Compiled::Refused(refusal, line),
+        answer: Compiled::Refused {
+            refusal,
+            line,
+            column,
+        },
         places: [Place {
             state: State::Unnamed,
         }; 8],
@@ -345,6 +349,7 @@ fn refused_table(refusal: Refusal, line: usize) -> Attributes
 fn read_lines(text: &[u8]) -> Attributes
     requires { ⌜ length (now text) ≤ textLimit ⌝ }
     ensures answer { λ r. ⌜ compiledReply (r .answer) ≡ attributesReply (compiledAttributes (now (text .entry))) ⌝ }
+    ensures column { λ r. ⌜ compiledColumn (r .answer) ≡ outcomeColumn (compiledAttributes (now (text .entry))) ⌝ }
     ensures places { λ r. ⌜ r .places ≡ outcomePlaces (compiledAttributes (now (text .entry))) ⌝ }
 {
     let none = [Place {
@@ -358,10 +363,14 @@ fn read_lines(text: &[u8]) -> Attributes
     let mut at = 0;
     while at < text.len() {
         let end = lines::line_end(text, at);
-        let next = dot_step(states, &text[at..end]);
+        let here = &text[at..end];
+        let next = dot_step(states, here);
         let stopped = next.stopped;
         match stopped {
-            Stopped::By(refusal) => return refused_table(refusal, line),
+            Stopped::By(refusal, left) => {
+                let column = lines::column_of(here, left);
+                return refused_table(refusal, line, column);
+            }
             Stopped::No => {
                 states = next.states;
             }
@@ -379,10 +388,11 @@ fn read_lines(text: &[u8]) -> Attributes
 // Compiles an attributes text: any bytes.
 pub fn compile_attributes(text: &[u8]) -> Attributes
     ensures answer { λ r. ⌜ compiledReply (r .answer) ≡ attributesReply (compiledAttributes (now (text .entry))) ⌝ }
+    ensures column { λ r. ⌜ compiledColumn (r .answer) ≡ outcomeColumn (compiledAttributes (now (text .entry))) ⌝ }
     ensures places { λ r. ⌜ r .places ≡ outcomePlaces (compiledAttributes (now (text .entry))) ⌝ }
 {
     if TEXT_LIMIT < text.len() {
-        return refused_table(Refusal::TextTooLong, 0);
+        return refused_table(Refusal::TextTooLong, 0, 0);
     }
     read_lines(text)
 }

@@ -9,10 +9,11 @@ use table::TABLE_WORDS;
 // Two words more than a table has.
 const WORDS: usize = TABLE_WORDS + 2;
 
-fn compile_case(text: &[u8]) -> Text {
+// What compiling into a slice that lacks so many words answers.
+fn compiled(text: &[u8], lacking: u32) -> Compiled {
     let mut words = [0u32; TABLE_WORDS];
-    let answer = compiler::compile(text, &mut words);
-    replies::compile_text(answer)
+    let n = lacking as usize % (TABLE_WORDS + 1);
+    compiler::compile(text, &mut words[n..])
 }
 
 fn page_answer(words: &[u32], question: &[u8]) -> Text {
@@ -79,10 +80,9 @@ fn left_case(text: &[u8], length: u32) -> Text {
     left_answer(text, &mut words[0..n])
 }
 
-fn attributes_case(text: &[u8]) -> Text {
+fn compiled_attributes(text: &[u8]) -> Compiled {
     let table = attributes::compile_attributes(text);
-    let answer = table.answer;
-    replies::compile_text(answer)
+    table.answer
 }
 
 fn dots_case(text: &[u8], byte: u32) -> Text {
@@ -118,7 +118,11 @@ fn refusal_of(number: u32) -> Refusal {
 }
 
 fn report_case(number: u32, line: u32) -> Text {
-    replies::compile_text(Compiled::Refused(refusal_of(number), line as usize))
+    replies::compile_text(Compiled::Refused {
+        refusal: refusal_of(number),
+        line: line as usize,
+        column: 0,
+    })
 }
 
 // The answer to a case by its fields. The kinds that ask a table stand in fours, in the order of `table_answer`.
@@ -128,7 +132,7 @@ fn answer_to(name: &[u8], text: &[u8], question: &[u8]) -> Text {
         name,
         b"show type page windows lent lent_type lent_page lent_windows \
         short short_type short_page short_windows beyond beyond_type beyond_page beyond_windows \
-        compile left attributes dots report",
+        compile column left attributes attributes_column dots report",
     );
     let call = kind % 4;
     match kind {
@@ -136,11 +140,13 @@ fn answer_to(name: &[u8], text: &[u8], question: &[u8]) -> Text {
         4 | 5 | 6 | 7 => lent_case(TABLE_WORDS, call, text, question),
         8 | 9 | 10 | 11 => lent_case(TABLE_WORDS - 1, call, text, question),
         12 | 13 | 14 | 15 => lent_case(WORDS, call, text, question),
-        16 => compile_case(text),
-        17 => left_case(text, n),
-        18 => attributes_case(text),
-        19 => dots_case(text, n),
-        20 => report_case(fields::number(text), n),
+        16 => replies::compile_text(compiled(text, 0)),
+        17 => replies::column_text(compiled(text, n)),
+        18 => left_case(text, n),
+        19 => replies::compile_text(compiled_attributes(text)),
+        20 => replies::column_text(compiled_attributes(text)),
+        21 => dots_case(text, n),
+        22 => report_case(fields::number(text), n),
         _ => answers::text_of(b"unknown kind"),
     }
 }

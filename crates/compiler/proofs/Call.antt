@@ -8,7 +8,7 @@ use borrow.Author.Tests.{lt-ltb, le-ltb}
 use Rattle.basics.specs.declared.Refusal.{Refusal}
 use Rattle.basics.specs.declared.Refusal.the-variants.{ShortSlice, TextTooLong, UnclosedBlock}
 use Rattle.lines.specs.Lines.{withoutCR}
-use Rattle.lines.specs.Texts.{textLimit, accepted, compiledReply, runText}
+use Rattle.lines.specs.Texts.{textLimit, columnOf, accepted, runText, compiledReply, compiledColumn}
 use Rattle.lines.specs.Internal.{LineEnd}
 use Rattle.lines.specs.declared.Compiled.{Compiled}
 use Rattle.lines.specs.declared.Compiled.the-variants.{Accepted, Refused}
@@ -20,7 +20,7 @@ use Rattle.blocks.proofs.Stacks.{stack-none}
 use Rattle.table.specs.Words.{tableWords, definitions}
 use Rattle.table.specs.Internal.{Written}
 use Rattle.table.proofs.Written.{zeroed-beyond, written-length}
-use Rattle.compiler.specs.Compile.{begun, step, closing, compiled, compileReply, compileWords}
+use Rattle.compiler.specs.Compile.{begun, step, closing, compiled, compileReply, compileColumn, compileWords}
 use Rattle.compiler.specs.Internal.{standing, firstState, Ready, Leaves, Settled}
 use Rattle.compiler.specs.declared.State.{State}
 use Rattle.compiler.specs.declared.Stepped.{Stepped}
@@ -53,26 +53,27 @@ module _ (text zeroed ws : List ℕ) (s : State) (at : ℕ) (here : Come text ze
   unfolding compiled
   come-end h t =
       let gives = lines-read step text (runText step begun text) at (s .lines + 1) (standing ws s) (here .reached) h in
-      record { answer = t .answer ∙ rw gives; words = t .words ∙ rw (gives, here .beyond) }
+      record { answer = t .answer ∙ rw gives; column = t .column ∙ rw gives; words = t .words ∙ rw (gives, here .beyond) }
 
   -- the next line ends at e, and leaves r and new
-  module _ (e : ℕ) (r : Stepped) (new : List ℕ) (some : at < length text) (ends : LineEnd text at e) (left : Leaves ws s (withoutCR (take (e - at) (drop at text))) r new) where
+  module _ (e : ℕ) (r : Stepped) (new : List ℕ) (some : at < length text) (ends : LineEnd text at e) (leave : Leaves ws s (withoutCR (take (e - at) (drop at text))) r new) where
     pub come-on : r .stopped ≡ No → length new ≡ length ws → Come text zeroed new (r .state) (e + 1)
     come-on q same =
-        let counts = step-counts (standing ws s) (withoutCR (take (e - at) (drop at text))) (sym (rw q at (left .does))) in
+        let counts = step-counts (standing ws s) (withoutCR (take (e - at) (drop at text))) (sym (rw q at (leave .does))) in
         record {
-          reached = rw (← counts) at (line-read step text (runText step begun text) at (s .lines + 1) (standing ws s) (here .reached) e (r .stopped) (standing new (r .state)) some ends (left .does) q);
-          ready = left .ready;
-          beyond = left .beyond ∙ here .beyond;
+          reached = rw (← counts) at (line-read step text (runText step begun text) at (s .lines + 1) (standing ws s) (here .reached) e (r .stopped) (standing new (r .state)) some ends (leave .does) q);
+          ready = leave .ready;
+          beyond = leave .beyond ∙ here .beyond;
           same = same ∙ here .same;
         }
 
     -- the words are zeroed again
-    pub come-refused : {refusal : Refusal} {last : List ℕ} → r .stopped ≡ By refusal → last ≡ replicate tableWords 0 ++ drop tableWords new → Settled (compiled text) zeroed (Refused refusal (s .lines + 1)) last
+    pub come-refused : {refusal : Refusal} {left column : ℕ} {last : List ℕ} → r .stopped ≡ By refusal left → column ≡ columnOf (withoutCR (take (e - at) (drop at text))) left
+        → last ≡ replicate tableWords 0 ++ drop tableWords new → Settled (compiled text) zeroed (Refused refusal (s .lines + 1) column) last
     unfolding compiled
-    come-refused {refusal} q z =
-        let gives = line-refused step text (runText step begun text) at (s .lines + 1) (standing ws s) (here .reached) e (r .stopped) (standing new (r .state)) some ends (left .does) refusal q in
-        record { answer = rw gives; words = z ∙ rw (gives, left .beyond, here .beyond) }
+    come-refused {refusal} {left} q c z =
+        let gives = line-refused step text (runText step begun text) at (s .lines + 1) (standing ws s) (here .reached) e (r .stopped) (standing new (r .state)) some ends (leave .does) refusal left q c in
+        record { answer = rw gives; column = rw gives; words = z ∙ rw (gives, leave .beyond, here .beyond) }
 
 -- ---- the end of the text
 
@@ -80,33 +81,38 @@ module _ (ws : List ℕ) (s : State) where
   pub end-closed : Ready ws s → s .blocks .depth ≡ 0 → Settled (closing (accepted (standing ws s))) ws (Accepted (s .count)) ws
   end-closed w e =
       let none = stack-none 0 (s .blocks .starts) (s .blocks .depth) e in
-      record { answer = rw (none, written-length ws (s .count) (w .written)); words = rw none (w .written .image) }
+      record { answer = rw (none, written-length ws (s .count) (w .written)); column = rw none; words = rw none (w .written .image) }
 
   -- the words are zeroed again
   pub end-open : (line : ℕ) (outer : List ℕ) {last : List ℕ} → startsOf (s .blocks) ≡ line ∷ outer → last ≡ replicate tableWords 0 ++ drop tableWords ws
-      → Settled (closing (accepted (standing ws s))) ws (Refused UnclosedBlock line) last
-  end-open line outer e z = record { answer = rw e; words = z ∙ rw e }
+      → Settled (closing (accepted (standing ws s))) ws (Refused UnclosedBlock line 0) last
+  end-open line outer e z = record { answer = rw e; column = rw e; words = z ∙ rw e }
 
 -- ---- the call
 
--- what the call is to ensure: its answer, and the words that it leaves
+-- what the call is to ensure: its answer, the column, and the words that it leaves
 abbrev Ensured : List ℕ → List ℕ → Compiled → List ℕ → Type 0
-Ensured text entry r ws = (compiledReply r ≡ compileReply text (length entry)) × (ws ≡ compileWords text entry)
+Ensured text entry r ws =
+    (compiledReply r ≡ compileReply text (length entry)) × ((compiledColumn r ≡ compileColumn text (length entry)) × (ws ≡ compileWords text entry))
 
 module _ (text entry : List ℕ) where
-  pub too-few : length entry < tableWords → Ensured text entry (Refused ShortSlice 0) entry
-  unfolding compileReply compileWords
-  too-few h = (rw (lt-ltb _ _ h), rw (lt-ltb _ _ h))
+  pub too-few : length entry < tableWords → Ensured text entry (Refused ShortSlice 0 0) entry
+  unfolding compileReply compileColumn compileWords
+  too-few h = rw (lt-ltb _ _ h) (refl, (refl, refl))
 
   module _ (enough : tableWords ≤ length entry) where
-    pub too-long : textLimit < length text → Ensured text entry (Refused TextTooLong 0) entry
-    unfolding compileReply compileWords compiled runText
-    too-long h = (rw (le-ltb _ _ enough, lt-ltb _ _ h), rw (le-ltb _ _ enough, lt-ltb _ _ h))
+    pub too-long : textLimit < length text → Ensured text entry (Refused TextTooLong 0 0) entry
+    unfolding compileReply compileColumn compileWords compiled runText
+    too-long h = rw (le-ltb _ _ enough, lt-ltb _ _ h) (refl, (refl, refl))
 
     module _ (zeroed : List ℕ) (r : Compiled) (ws : List ℕ) (read : Settled (compiled text) zeroed r ws) where
       pub read-answer : compiledReply r ≡ compileReply text (length entry)
       unfolding compileReply
       read-answer = read .answer ∙ rw (le-ltb _ _ enough)
+
+      pub read-column : compiledColumn r ≡ compileColumn text (length entry)
+      unfolding compileColumn
+      read-column = read .column ∙ rw (le-ltb _ _ enough)
 
       pub read-words : length text ≤ textLimit → zeroed ≡ replicate tableWords 0 ++ drop tableWords entry → ws ≡ compileWords text entry
       unfolding compileWords

@@ -106,7 +106,7 @@ module _ (ws : List ℕ) (s : State) (w : Ready ws s) (line : List ℕ) (r : Rea
   takes : {t : Reading} → r ≡ t → lineEffect (definitions (s .count) ws) (blocksOf (s .blocks)) line ≡ t
   takes e = sym does ∙ e
 
-  pub leaves-refused : {refusal : Refusal} {left : ℕ} → r ≡ Fault refusal left → Leaves ws s line (record { stopped = By refusal; state = s }) ws
+  pub leaves-refused : {refusal : Refusal} {left : ℕ} → r ≡ Fault refusal left → Leaves ws s line (record { stopped = By refusal left; state = s }) ws
   unfolding step
   leaves-refused e = record { does = rw (takes e); ready = w; beyond = refl }
 

@@ -1,5 +1,6 @@
--- What an accepted text takes: its definitions are admitted and in range, and bytes after a text go on from where it left off.
-use Prim.Native.Nat.{ℕ, suc, _+_, _≤_}
+-- What an accepted text takes: its definitions are admitted and in range, and bytes after a text go on from where it left off; and how far the
+-- column of a refused one goes.
+use Prim.Native.Nat.{ℕ, suc, _+_, _-_, _≤_, _<_}
 use mathlib.Core.Path.{_≡_, refl, sym, _∙_}
 use mathlib.Core.Bool.{Bool, true, false}
 use mathlib.Core.List.{List, [], _∷_, _++_, append-nil}
@@ -7,20 +8,22 @@ use native.Mathlib.Omega.{arith}
 use lib.Dec.{ltb}
 use lib.ListN.{length, drop}
 use lib.Seq.{append-snoc}
-use borrow.Author.Tests.{ltb-false, le-ltb}
+use borrow.Author.Tests.{lt-ltb, ltb-false, le-ltb}
 use Rattle.basics.specs.Choice.{pick}
 use Rattle.basics.specs.Refusals.{answered, refused}
-use Rattle.basics.specs.declared.Refusal.the-variants.{TextTooLong}
+use Rattle.basics.specs.declared.Refusal.the-variants.{TextTooLong, LineTooLong}
+use Rattle.basics.proofs.Tests.{either}
 use Rattle.lines.specs.Lines.{linesOf, withoutCR, isEnded}
-use Rattle.lines.specs.Texts.{textLimit, next, Outcome, accepted, rejected, onStep, runLines, runText}
-use Rattle.lines.proofs.Texts.{lines-append, run-keeps, run-append}
+use Rattle.lines.specs.Texts.{textLimit, lineLimit, openingOf, next, stop, Outcome, accepted, rejected, onStep, runLines, runText, outcomeColumn}
+use Rattle.lines.proofs.Texts.{lines-append, run-keeps, run-append, run-column}
 use Rattle.blocks.specs.declared.OpenBlock.{OpenBlock}
 use Rattle.blocks.proofs.Stacks.{after-alike}
 use Rattle.definitions.specs.declared.Definition.{Definition}
 use Rattle.definitions.proofs.Admission.{Admits}
 use Rattle.table.specs.Words.{tableWords, imageOf}
 use Rattle.table.proofs.Readback.{AllInRange}
-use Rattle.compiler.specs.Compile.{lineEffect, SoFar, begun, withEffect, step, closedBy, closing, compiled, andAfter, effectsWithin, effects, compiledCount, compileReply, compileWords}
+use Rattle.compiler.specs.Compile.{lineEffect, SoFar, begun, withEffect, step, closedBy, closing, compiled, andAfter, effectsWithin, effects, compiledCount, compileReply, compileColumn, compileWords}
+use Rattle.reader.specs.Reader.{readLine}
 use Rattle.reader.specs.declared.Reading.{Reading}
 use Rattle.reader.specs.declared.Reading.the-variants.{Fault, NoEffect, Define, Block}
 use Rattle.compiler.proofs.Effects.{effect-in-range, effect-admitted}
@@ -38,7 +41,7 @@ run-took [] n s e = record { after = cc (append-nil (s .definitions)); admits = 
 run-took (l ∷ ls) n s {g} e = go (λ t. run-took ls (n + 1) t) (lineEffect (s .definitions) (s .blocks) (withoutCR l)) refl e
   where
     go : ((t : SoFar) → runLines step ls (n + 1) t ≡ accepted g → Took (t .definitions) (g .definitions) (effectsWithin (t .definitions) (t .blocks) ls))
-        → (r : Reading) → lineEffect (s .definitions) (s .blocks) (withoutCR l) ≡ r → onStep (withEffect s r) n (λ t. runLines step ls (n + 1) t) ≡ accepted g
+        → (r : Reading) → lineEffect (s .definitions) (s .blocks) (withoutCR l) ≡ r → onStep (withEffect s r) (withoutCR l) n (λ t. runLines step ls (n + 1) t) ≡ accepted g
         → Took (s .definitions) (g .definitions) (andAfter (s .definitions) (s .blocks) r (λ ds bs. effectsWithin ds bs ls))
     go ih (Fault refusal left) p e = record { after = cc; admits = tt; fit = tt }
     go ih NoEffect p e = ih _ e
@@ -74,7 +77,7 @@ pub record AcceptedText (text : List ℕ) (ds : List Definition) : Type 0 where
   pub all : left .definitions ≡ ds
 
 lines-accepted : (text : List ℕ) (o : Outcome SoFar) {ds : List Definition} → length text ≤ textLimit → runLines step (linesOf text) 1 begun ≡ o → closing o ≡ accepted ds → AcceptedText text ds
-lines-accepted text (rejected refusal line) h p e = absurd (let z : _≡_ {A = ℕ} 0 1 = cc in omega arith)
+lines-accepted text (rejected refusal line column) h p e = absurd (let z : _≡_ {A = ℕ} 0 1 = cc in omega arith)
 lines-accepted text (accepted s) {ds} h p e = go (s .blocks) refl (s .starts) (run-keeps step Alike step-alike (linesOf text) 1 begun p refl) e
   where
     go : (bs : List OpenBlock) → s .blocks ≡ bs → (starts : List ℕ) → length (s .blocks) ≡ length starts → closedBy starts (s .definitions) ≡ accepted ds → AcceptedText text ds
@@ -86,7 +89,7 @@ pub text-accepted : (text : List ℕ) {ds : List Definition} → compiled text �
 unfolding compiled runText
 text-accepted text {ds} e = go (ltb textLimit (length text)) refl e
   where
-    go : (b : Bool) → ltb textLimit (length text) ≡ b → closing (pick b (rejected TextTooLong 0) (runLines step (linesOf text) 1 begun)) ≡ accepted ds → AcceptedText text ds
+    go : (b : Bool) → ltb textLimit (length text) ≡ b → closing (pick b (rejected TextTooLong 0 0) (runLines step (linesOf text) 1 begun)) ≡ accepted ds → AcceptedText text ds
     go true p e = absurd (let z : _≡_ {A = ℕ} 0 1 = cc in omega arith)
     go false p e = lines-accepted text (runLines step (linesOf text) 1 begun) (ltb-false textLimit (length text) p) refl e
 
@@ -122,7 +125,7 @@ text-answered text words {count} e = go (ltb words tableWords) refl e
   where
     on-outcome : (o : Outcome (List Definition)) → compiled text ≡ o → tableWords ≤ words → compiledCount o ≡ answered count → AnsweredText text words count
     on-outcome (accepted ds) p h e = record { enough = h; short = text-accepted text p .short; definitions = ds; compiles = p; counts = cc }
-    on-outcome (rejected refusal line) p h e = absurd (let z : _≡_ {A = ℕ} 0 1 = cc in omega arith)
+    on-outcome (rejected refusal line column) p h e = absurd (let z : _≡_ {A = ℕ} 0 1 = cc in omega arith)
 
     go : (b : Bool) → ltb words tableWords ≡ b → pick b (refused 2 0) (compiledCount (compiled text)) ≡ answered count → AnsweredText text words count
     go true p e = absurd (let z : _≡_ {A = ℕ} 0 1 = cc in omega arith)
@@ -134,3 +137,22 @@ pub accepted-words : (text ws : List ℕ) {ds : List Definition} → tableWords 
 unfolding compileWords
 accepted-words text ws enough e =
     rw (le-ltb (length ws) tableWords enough, le-ltb textLimit (length text) (text-accepted text e .short), e)
+
+-- ---- columns
+
+step-long : (s : SoFar) (line : List ℕ) → lineLimit < length line → step s line ≡ stop LineTooLong (length line - lineLimit)
+unfolding step lineEffect readLine openingOf
+step-long s line h = rw (lt-ltb lineLimit (length line) h)
+
+-- no column lies beyond the first byte that a line has too many
+pub text-column : (text : List ℕ) (words : ℕ) → compileColumn text words ≤ lineLimit + 1
+unfolding compileColumn compiled
+text-column text words = either (λ (column : ℕ). column ≤ lineLimit + 1) (ltb words tableWords) (omega arith) (closed (runText step begun text) (run-column step step-long begun text))
+  where
+    ended : (starts : List ℕ) (ds : List Definition) → outcomeColumn (closedBy starts ds) ≤ lineLimit + 1
+    ended [] ds = omega arith
+    ended (line ∷ starts) ds = omega arith
+
+    closed : (o : Outcome SoFar) → outcomeColumn o ≤ lineLimit + 1 → outcomeColumn (closing o) ≤ lineLimit + 1
+    closed (accepted s) h = ended (s .starts) (s .definitions)
+    closed (rejected refusal line column) h = h

@@ -8,7 +8,7 @@ use Rattle.basics.specs.Choice.{pick}
 use Rattle.basics.specs.Refusals.{Reply, refused}
 use Rattle.basics.specs.declared.Refusal.the-variants.{UnclosedBlock}
 use Rattle.lines.specs.Lines.{withoutCR}
-use Rattle.lines.specs.Texts.{textLimit, Step, next, stop, Outcome, accepted, rejected, runText, outcomeReply}
+use Rattle.lines.specs.Texts.{textLimit, Step, next, stop, Outcome, accepted, rejected, runText, outcomeReply, outcomeColumn}
 use Rattle.blocks.specs.Blocks.{aroundOf, blocksAfter, startsAfter}
 use Rattle.blocks.specs.declared.OpenBlock.{OpenBlock}
 use Rattle.definitions.specs.declared.Definition.{Definition}
@@ -51,7 +51,7 @@ begun = soFar [] [] [] 0
 
 -- one line more, with what takes effect at it
 abbrev pub withEffect : SoFar → Reading → Step SoFar
-withEffect s (Fault refusal left) = stop refusal
+withEffect s (Fault refusal left) = stop refusal left
 withEffect s NoEffect = next (soFar (s .definitions) (s .blocks) (s .starts) (s .lines + 1))
 withEffect s (Define d left) = next (soFar (s .definitions ++ d ∷ []) (s .blocks) (s .starts) (s .lines + 1))
 withEffect s (Block line) =
@@ -60,14 +60,14 @@ withEffect s (Block line) =
 unfoldable pub step : SoFar → List ℕ → Step SoFar
 step s line = withEffect s (lineEffect (s .definitions) (s .blocks) line)
 
--- 18, after all line faults: a block that is open at the end, at the line that opened the innermost
+-- 18, after all line faults: a block that is open at the end, at the line that opened the innermost, without a column
 abbrev pub closedBy : List ℕ → List Definition → Outcome (List Definition)
 closedBy [] ds = accepted ds
-closedBy (line ∷ starts) ds = rejected UnclosedBlock line
+closedBy (line ∷ starts) ds = rejected UnclosedBlock line 0
 
 abbrev pub closing : Outcome SoFar → Outcome (List Definition)
 closing (accepted s) = closedBy (s .starts) (s .definitions)
-closing (rejected refusal line) = rejected refusal line
+closing (rejected refusal line column) = rejected refusal line column
 
 -- the definitions of a text
 unfoldable pub compiled : List ℕ → Outcome (List Definition)
@@ -98,10 +98,14 @@ compileReply text words =
     let read : Reply ℕ = compiledCount (compiled text) in
     pick (ltb words tableWords) (refused 2 0) read
 
+-- and the column of its refusal, which 2 does not have
+unfoldable pub compileColumn : List ℕ → ℕ → ℕ
+compileColumn text words = pick (ltb words tableWords) 0 (outcomeColumn (compiled text))
+
 -- the 2,048 words: zero where the text is refused
 abbrev pub outcomeWords : Outcome (List Definition) → List ℕ
 outcomeWords (accepted ds) = imageOf ds
-outcomeWords (rejected refusal line) = replicate tableWords 0
+outcomeWords (rejected refusal line column) = replicate tableWords 0
 
 -- the lent slice after the call: refusals 2 and 1 touch nothing, and nothing touches words beyond 2,048
 unfoldable pub compileWords : List ℕ → List ℕ → List ℕ

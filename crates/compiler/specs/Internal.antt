@@ -3,7 +3,7 @@ use Prim.Native.Nat.{ℕ, _+_, _≤_}
 use mathlib.Core.Path.{_≡_}
 use mathlib.Core.List.{List, _++_}
 use lib.ListN.{drop}
-use Rattle.lines.specs.Texts.{Outcome, compiledReply}
+use Rattle.lines.specs.Texts.{Outcome, outcomeColumn, compiledReply, compiledColumn}
 use Rattle.lines.specs.Internal.{leaves}
 use Rattle.lines.specs.declared.Compiled.{Compiled}
 use Rattle.lines.specs.declared.Stopped.the-variants.{No}
@@ -39,7 +39,8 @@ pub record Leaves (old : List ℕ) (s : State) (line : List ℕ) (r : Stepped) (
   pub ready : Ready new (r .state)
   pub beyond : drop tableWords new ≡ drop tableWords old
 
--- the answer, and the words, by what a text gives
+-- the answer, its column, and the words, by what a text gives
 pub record Settled (gives : Outcome (List Definition)) (old : List ℕ) (r : Compiled) (new : List ℕ) : Type 0 where
   pub answer : compiledReply r ≡ compiledCount gives
+  pub column : compiledColumn r ≡ outcomeColumn gives
   pub words : new ≡ outcomeWords gives ++ drop tableWords old

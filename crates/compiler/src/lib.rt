@@ -12,12 +12,12 @@ ghost use mathlib.Core.Path.{_≡_};
 ghost use Prim.Native.Nat.{_*_, _≤_, _<_};
 ghost use lib.ListN.{length};
 ghost use Rattle.lines.specs.Lines.{withoutCR};
-ghost use Rattle.lines.specs.Texts.{textLimit, accepted, compiledReply};
+ghost use Rattle.lines.specs.Texts.{textLimit, accepted, compiledReply, compiledColumn};
 ghost use Rattle.blocks.specs.Blocks.{depthLimit};
 ghost use Rattle.blocks.specs.Internal.{blocksOf};
 ghost use Rattle.table.specs.Words.{definitions};
 ghost use Rattle.table.specs.Internal.{Written};
-ghost use Rattle.compiler.specs.Compile.{effectOf, lineEffect, closing, compiled, compileReply, compileWords};
+ghost use Rattle.compiler.specs.Compile.{effectOf, lineEffect, closing, compiled, compileReply, compileColumn, compileWords};
 ghost use Rattle.compiler.specs.Internal.{standing, firstState, Ready, goneOn, Leaves, Settled};
 
 // What the lines so far leave, beside the words: how many definitions and lines there were, and the open blocks.
@@ -83,8 +83,8 @@ fn take_line(words: &mut [u32], state: State, line: &[u8]) -> Stepped
     let lines = state.lines;
     let blocks = state.blocks;
     match line_effect(words, count, blocks, line) {
-        Reading::Fault(refusal, _) => Stepped {
-            stopped: Stopped::By(refusal),
+        Reading::Fault(refusal, left) => Stepped {
+            stopped: Stopped::By(refusal, left),
             state,
         },
         Reading::NoEffect => gone_on(count, lines, blocks),
@@ -132,7 +132,11 @@ fn close(words: &mut [u32], state: State) -> Compiled
         return Compiled::Accepted(state.count);
     }
     table::clear(words);
-    Compiled::Refused(Refusal::UnclosedBlock, blocks::innermost(blocks))
+    Compiled::Refused {
+        refusal: Refusal::UnclosedBlock,
+        line: blocks::innermost(blocks),
+        column: 0,
+    }
 }
 
 // Reads the lines of a text into zeroed words; a refusal zeroes them again.
@@ -144,12 +148,17 @@ fn read_lines(words: &mut [u32], text: &[u8]) -> Compiled
     let mut at = 0;
     while at < text.len() {
         let end = lines::line_end(text, at);
-        let next = step_line(words, state, &text[at..end]);
+        let here = &text[at..end];
+        let next = step_line(words, state, here);
         let stopped = next.stopped;
         match stopped {
-            Stopped::By(refusal) => {
+            Stopped::By(refusal, left) => {
                 table::clear(words);
-                return Compiled::Refused(refusal, state.lines + 1);
+                return Compiled::Refused {
+                    refusal,
+                    line: state.lines + 1,
+                    column: lines::column_of(here, left),
+                };
             }
             Stopped::No => {
                 state = next.state;
@@ -163,13 +172,22 @@ fn read_lines(words: &mut [u32], text: &[u8]) -> Compiled
 // Compiles a text table: any bytes, any slice.
 pub fn compile(text: &[u8], words: &mut [u32]) -> Compiled
     ensures answer { λ r. ⌜ compiledReply r ≡ compileReply (now (text .entry)) (length (now (words .entry))) ⌝ }
+    ensures column { λ r. ⌜ compiledColumn r ≡ compileColumn (now (text .entry)) (length (now (words .entry))) ⌝ }
     ensures words { λ r. ⌜ now (words .exit) ≡ compileWords (now (text .entry)) (now (words .entry)) ⌝ }
 {
     if words.len() < TABLE_WORDS {
-        return Compiled::Refused(Refusal::ShortSlice, 0);
+        return Compiled::Refused {
+            refusal: Refusal::ShortSlice,
+            line: 0,
+            column: 0,
+        };
     }
     if TEXT_LIMIT < text.len() {
-        return Compiled::Refused(Refusal::TextTooLong, 0);
+        return Compiled::Refused {
+            refusal: Refusal::TextTooLong,
+            line: 0,
+            column: 0,
+        };
     }
     table::clear(words);
     read_lines(words, text)

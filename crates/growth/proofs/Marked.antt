@@ -1,16 +1,17 @@
--- The cases that document 01 marks with *, and worked blocks: a claim over each table, closed by computation, from the bytes of a text to the answers.
+-- The cases that document 01 marks with *, worked blocks and worked columns: a claim over each table, closed by computation, from the bytes of a text to the answers.
 use mathlib.Core.Path.{_≡_, refl}
 use mathlib.Core.Bool.{true}
 use Rattle.attributes.specs.Cells.{cellFrom}
 use Rattle.attributes.specs.Compile.{readDotLine, dotStep, compiledAttributes}
 use Rattle.attributes.specs.Reader.{backgroundState, namedState, stateOf, stateAt, dotAt, dotLine}
 use Rattle.blocks.specs.Blocks.{aroundOf}
-use Rattle.compiler.specs.Compile.{lineEffect, step, compiled, compileReply, compileWords}
+use Rattle.compiler.specs.Compile.{lineEffect, step, compiled, compileReply, compileColumn, compileWords}
 use Rattle.reader.specs.Conditions.{hasGlyph, hasCell}
 use Rattle.reader.specs.Reader.{conditionOf, directiveOf, finished, dotsLine, aliasLine, conditionAt, glyphCondition, cellCondition, frontOf, ifHolds, readFrom, blockLine, readFirst, readLine}
 use Rattle.definitions.specs.Definitions.{find, explicit, aliasOf, walkWithin, walk, aliases, typedIn}
 use Rattle.definitions.specs.Effects.{verdictOf}
 use Rattle.growth.specs.Blocks.{workedBlocks}
+use Rattle.growth.specs.Columns.{workedColumns}
 use Rattle.growth.specs.Marked.{marked, wordsFor, comesOut, everyOne}
 use Rattle.lines.specs.Lines.{linesOf, withoutCR}
 use Rattle.lines.specs.Texts.{openingOf, runLines, runText}
@@ -26,13 +27,16 @@ use Rattle.typing.specs.Typing.{filledFrom}
 use Rattle.unicode.specs.Characters.{localOf, standsFor}
 use Rattle.unicode.specs.Utf8.{afterFirst, afterFurther, utf8From}
 
--- both tables, since they are computed by the same definitions
-computed : (everyOne marked ≡ true) × (everyOne workedBlocks ≡ true)
-unfolding cellFrom readDotLine dotStep compiledAttributes backgroundState namedState stateOf stateAt dotAt dotLine aroundOf blockLine readFirst readLine lineEffect step compiled compileReply compileWords hasGlyph hasCell conditionOf directiveOf finished dotsLine aliasLine conditionAt glyphCondition cellCondition frontOf ifHolds readFrom find explicit aliasOf walkWithin walk aliases typedIn verdictOf wordsFor comesOut everyOne linesOf withoutCR openingOf runLines runText isBlank firstFrom firstAt wordAt sameBytes isOver lookupReply firstNoScalar pagePlan candidates choose rulesFrom3 lookup digitOf withDigit digitsFrom plainOf shortOf radixOf wordNumber characterOf byteOf raiseBy raise raiseInside endsAt digitsAt insideAt cellAt dotsAt characterAt dotsOperandAt zeroFrom checkFrom checkOf lentTable wordsOf isSoundWord meaningOf definitions filledFrom localOf standsFor afterFirst afterFurther utf8From
-computed = (refl, refl)
+-- all tables, since they are computed by the same definitions
+computed : (everyOne marked ≡ true) × (everyOne workedBlocks ≡ true) × (everyOne workedColumns ≡ true)
+unfolding cellFrom readDotLine dotStep compiledAttributes backgroundState namedState stateOf stateAt dotAt dotLine aroundOf blockLine readFirst readLine lineEffect step compiled compileReply compileColumn compileWords hasGlyph hasCell conditionOf directiveOf finished dotsLine aliasLine conditionAt glyphCondition cellCondition frontOf ifHolds readFrom find explicit aliasOf walkWithin walk aliases typedIn verdictOf wordsFor comesOut everyOne linesOf withoutCR openingOf runLines runText isBlank firstFrom firstAt wordAt sameBytes isOver lookupReply firstNoScalar pagePlan candidates choose rulesFrom3 lookup digitOf withDigit digitsFrom plainOf shortOf radixOf wordNumber characterOf byteOf raiseBy raise raiseInside endsAt digitsAt insideAt cellAt dotsAt characterAt dotsOperandAt zeroFrom checkFrom checkOf lentTable wordsOf isSoundWord meaningOf definitions filledFrom localOf standsFor afterFirst afterFurther utf8From
+computed = (refl, refl, refl)
 
 pub marked-cases : everyOne marked ≡ true
 marked-cases = computed .0
 
 pub worked-blocks : everyOne workedBlocks ≡ true
 worked-blocks = computed .1
+
+pub worked-columns : everyOne workedColumns ≡ true
+worked-columns = computed .2

@@ -31,9 +31,9 @@ workedBlocks =
     ∷ shows "ifGlyph a ifNotGlyph b\nchar c 1\nelse\nchar c 2\nendIf\n" 0x63 0xFF 9 0
     -- eight deep, and not nine
     ∷ shows eightBlocks 0x62 0x01 3 0
-    ∷ refuses nineBlocks 10 9
+    ∷ refuses nineBlocks 10 9 1
     -- nothing open, a second `else`, a block open at the end
-    ∷ refuses "endIf x\n" 17 1
-    ∷ refuses "ifGlyph a\nelse\nelse\nendIf\n" 17 3
-    ∷ refuses "ifGlyph a\nifGlyph b\nelse\n" 18 2
+    ∷ refuses "endIf x\n" 17 1 1
+    ∷ refuses "ifGlyph a\nelse\nelse\nendIf\n" 17 3 1
+    ∷ refuses "ifGlyph a\nifGlyph b\nelse\n" 18 2 0
     ∷ []

@@ -20,7 +20,7 @@ use Rattle.compiler.specs.Compile.{compiled, effects, compileReply, compileWord
 -- the definitions of a text that is accepted
 abbrev pub accepting : Outcome (List Definition) → List Definition
 accepting (accepted ds) = ds
-accepting (rejected refusal line) = []
+accepting (rejected refusal line column) = []
 
 -- a definition is added exactly if it takes effect at a line in the bytes after the first text
 abbrev pub added : List ℕ → List ℕ → List Definition

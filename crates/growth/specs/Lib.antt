@@ -1,3 +1,4 @@
 pub mod Growth
 pub mod Marked
 pub mod Blocks
+pub mod Columns

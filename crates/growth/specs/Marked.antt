@@ -8,13 +8,14 @@ use lib.ListN.{replicate}
 use Rattle.basics.specs.Ascii.{ascii}
 use Rattle.basics.specs.Choice.{isCharacter}
 use Rattle.basics.specs.Refusals.{Reply, answered, refused}
+use Rattle.lines.specs.Texts.{outcomeColumn}
 use Rattle.table.specs.Words.{tableWords}
 use Rattle.lookup.specs.declared.Answer.{Answer}
 use Rattle.lookup.specs.Calls.{lookupReply}
 use Rattle.typing.specs.Typing.{typedBy}
-use Rattle.compiler.specs.Compile.{compileReply, compileWords}
+use Rattle.compiler.specs.Compile.{compileReply, compileColumn, compileWords}
 use Rattle.attributes.specs.Cells.{attributeCell}
-use Rattle.attributes.specs.Compile.{compiledAttributes, outcomePlaces}
+use Rattle.attributes.specs.Compile.{compiledAttributes, attributesReply, outcomePlaces}
 
 abbrev pub smallTable : String
 smallTable = "char a 1\nchar b (12)\nglyph A 17\nalias \\u00E4 a\nalias \\u03B1 \\u00E4\nchar ? 1456\n"
@@ -29,8 +30,9 @@ pub data Case : Type 0 where
   typesNothing : String → ℕ → Case
   -- an attributes table and an attribute byte: its cell
   raises : String → ℕ → ℕ → Case
-  -- a text table that is refused: the number and the line
-  refuses : String → ℕ → ℕ → Case
+  -- a text table that is refused: the number, the line and the column; and an attributes table
+  refuses : String → ℕ → ℕ → ℕ → Case
+  refusesDots : String → ℕ → ℕ → ℕ → Case
 
 abbrev pub marked : List Case
 marked =
@@ -66,7 +68,10 @@ unfoldable pub comesOut : Case → Bool
 comesOut (shows text c cell rule links) = isAnswer (lookupReply (wordsFor text) c) cell rule links
 comesOut (typesNothing text cell) = not (isCharacter (typedBy (wordsFor text) cell))
 comesOut (raises text byte cell) = eqb (attributeCell (outcomePlaces (compiledAttributes (ascii text))) byte) cell
-comesOut (refuses text number line) = isRefusal (compileReply (ascii text) tableWords) number line
+comesOut (refuses text number line column) =
+    isRefusal (compileReply (ascii text) tableWords) number line && eqb (compileColumn (ascii text) tableWords) column
+comesOut (refusesDots text number line column) =
+    isRefusal (attributesReply (compiledAttributes (ascii text))) number line && eqb (outcomeColumn (compiledAttributes (ascii text))) column
 
 unfoldable pub everyOne : List Case → Bool
 everyOne [] = true

@@ -9,7 +9,7 @@ use Rattle.basics.specs.Refusals.{Reply, answered, refused, fillingReply}
 use Rattle.basics.specs.declared.Filling.{Filling}
 use Rattle.basics.specs.declared.Maybe.{Maybe}
 use Rattle.basics.proofs.Tests.{either}
-use Rattle.lines.specs.Texts.{compiledReply}
+use Rattle.lines.specs.Texts.{outcomeColumn, compiledReply}
 use Rattle.lines.specs.declared.Compiled.{Compiled}
 use Rattle.definitions.specs.declared.Definition.{Definition}
 use Rattle.definitions.specs.Definitions.{types, typedIn}
@@ -23,7 +23,7 @@ use Rattle.typing.proofs.TypedCells.{entry-types, entries-length}
 use Rattle.attributes.specs.declared.Place.{Place}
 use Rattle.attributes.specs.Cells.{attributeCell}
 use Rattle.attributes.specs.Compile.{compiledAttributes, attributesReply, outcomePlaces}
-use Rattle.heathdapple.specs.Codes.{refusalCode, codeOf, characterCode, cellCount, withRoom, after, entryCode, entriesAfter, numbersFrom, cellsOf, cellsAfter}
+use Rattle.heathdapple.specs.Codes.{refusalCode, codeOf, characterCode, cellCount, withRoom, after, entryCode, entriesAfter, cellsColumn, numbersFrom, cellsOf, cellsAfter}
 use Rattle.heathdapple.specs.Internal.{EntriesFit}
 use Rattle.heathdapple.proofs.Codes.{code-of}
 
@@ -87,16 +87,22 @@ entries-fit ws e = rw e (go (lentTable ws) refl)
 -- ---- what the calls answer and leave
 
 -- a short buffer; x is what the table itself would answer
-pub short-code : {B : Type 0} (code : B → ℕ) (x : Reply B) {room r : ℕ} → room < cellCount → r ≡ refusalCode 2 0 → r ≡ codeOf code (withRoom room x)
-short-code code x {room} short e = rw (lt-ltb room cellCount short) e
+pub short-code : {B : Type 0} (code : B → ℕ) (x : Reply B) {k room r : ℕ} → room < cellCount → k ≡ 0 → r ≡ refusalCode 2 0 0 → r ≡ codeOf code k (withRoom room x)
+short-code code x {room = room} short c e = rw (lt-ltb room cellCount short, c) e
+
+pub short-column : (text : List ℕ) {room : ℕ} → room < cellCount → cellsColumn text room ≡ 0
+short-column text short = rw (lt-ltb _ _ short)
 
 pub short-left : {B : Type 0} (x : Reply B) (new old : List ℕ) → length old < cellCount → old ≡ after (withRoom (length old) x) new old
 short-left x new old short = rw (lt-ltb (length old) cellCount short)
 
 -- a buffer with room; v, the answer of the table's call, stands for x and is the case w
-pub long-code : {A B : Type 0} (reply : A → Reply B) (code : B → ℕ) {v w : A} {x : Reply B} {room r : ℕ} → cellCount ≤ room → reply v ≡ x → v ≡ w
-    → r ≡ codeOf code (reply w) → r ≡ codeOf code (withRoom room x)
-long-code reply code {room = room} long p q e = rw (le-ltb room cellCount long) (code-of reply code p q e)
+pub long-code : {A B : Type 0} (reply : A → Reply B) (column : A → ℕ) (code : B → ℕ) {v w : A} {x : Reply B} {k room r : ℕ} → cellCount ≤ room → reply v ≡ x → column v ≡ k → v ≡ w
+    → r ≡ codeOf code (column w) (reply w) → r ≡ codeOf code k (withRoom room x)
+long-code reply column code {room = room} long p c q e = rw (le-ltb room cellCount long) (code-of reply column code p c q e)
+
+pub long-column : (text : List ℕ) {room k : ℕ} → cellCount ≤ room → k ≡ outcomeColumn (compiledAttributes text) → k ≡ cellsColumn text room
+long-column text long c = rw (le-ltb _ _ long) c
 
 long-left : {A B : Type 0} (reply : A → Reply B) {v w : A} {x : Reply B} (new old : List ℕ) {left : List ℕ} → cellCount ≤ length old → reply v ≡ x → v ≡ w
     → left ≡ after (reply w) new old → left ≡ after (withRoom (length old) x) new old

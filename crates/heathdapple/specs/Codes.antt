@@ -6,6 +6,7 @@ use lib.Dec.{ltb}
 use Rattle.basics.specs.Choice.{pick, ifCharacter}
 use Rattle.basics.specs.Refusals.{Reply, answered, refused}
 use Rattle.basics.specs.declared.Maybe.{Maybe}
+use Rattle.lines.specs.Texts.{outcomeColumn}
 use Rattle.lookup.specs.declared.Answer.{Answer}
 use Rattle.lookup.specs.Calls.{over}
 use Rattle.typing.specs.declared.Entry.{Entry}
@@ -14,40 +15,42 @@ use Rattle.attributes.specs.declared.Place.{Place}
 use Rattle.attributes.specs.Cells.{attributeCell}
 use Rattle.attributes.specs.Compile.{compiledAttributes, attributesReply, outcomePlaces}
 
--- a refusal: its number × 2^32 + its place, a place beyond 2^32 − 1 given as 2^32 − 1
-abbrev pub refusalCode : ℕ → ℕ → ℕ
-refusalCode number place = number * 2 ^ 32 + min place (2 ^ 32 - 1)
+-- a refusal: its number × 2^48 + its column × 2^32 + its place; a column beyond 2^16 − 1 is given as that, a place beyond
+-- 2^32 − 1 as that
+abbrev pub refusalCode : ℕ → ℕ → ℕ → ℕ
+refusalCode number column place = number * 2 ^ 48 + min column (2 ^ 16 - 1) * 2 ^ 32 + min place (2 ^ 32 - 1)
 
--- an answer by its own code, a refusal by its own
-abbrev pub codeOf : {A : Type 0} → (A → ℕ) → Reply A → ℕ
-codeOf code (answered a) = code a
-codeOf code (refused number place) = refusalCode number place
+-- an answer by its own code, a refusal by its own, with its column, which only compiling has: 0 elsewhere
+abbrev pub codeOf : {A : Type 0} → (A → ℕ) → ℕ → Reply A → ℕ
+codeOf code column (answered a) = code a
+codeOf code column (refused number place) = refusalCode number column place
 
 -- compiling: the count of definitions, of `dot` lines
-abbrev pub compileCode : Reply ℕ → ℕ
-compileCode reply = codeOf (λ count. count) reply
+abbrev pub compileCode : ℕ → Reply ℕ → ℕ
+compileCode column reply = codeOf (λ count. count) column reply
 
 -- lookup: cell + 2^8 × rule + 2^16 × links
 abbrev pub answerCode : Answer → ℕ
 answerCode a = a .cell + 2 ^ 8 * a .rule + 2 ^ 16 * a .links
 
 abbrev pub lookupCode : Reply Answer → ℕ
-lookupCode reply = codeOf answerCode reply
+lookupCode reply = codeOf answerCode 0 reply
 
 -- a call that fills buffers and has no value: 0
 abbrev pub fillingCode : Reply (Unit {0}) → ℕ
-fillingCode reply = codeOf (λ u. 0) reply
+fillingCode reply = codeOf (λ u. 0) 0 reply
 
 -- typing: 0 for nothing, else the character + 1
 abbrev pub characterCode : Maybe → ℕ
 characterCode typed = ifCharacter typed 0 (λ c. c + 1)
 
 abbrev pub typedCode : List ℕ → ℕ → ℕ
-typedCode ws cell = codeOf (λ u. characterCode (typedBy ws cell)) (typingReply ws)
+typedCode ws cell = codeOf (λ u. characterCode (typedBy ws cell)) 0 (typingReply ws)
 
 -- attributes: the cell of the byte
 abbrev pub attributeCode : List ℕ → ℕ → ℕ
-attributeCode text byte = codeOf (λ lines. attributeCell (outcomePlaces (compiledAttributes text)) byte) (attributesReply (compiledAttributes text))
+attributeCode text byte =
+    codeOf (λ lines. attributeCell (outcomePlaces (compiledAttributes text)) byte) (outcomeColumn (compiledAttributes text)) (attributesReply (compiledAttributes text))
 
 -- ---- for all 256 cells, for all 256 bytes
 
@@ -77,6 +80,10 @@ entriesAfter ws old = after (entriesReply ws (length old)) (map entryCode (typin
 -- the cells of all attribute bytes
 abbrev pub cellsReply : List ℕ → ℕ → Reply ℕ
 cellsReply text room = withRoom room (attributesReply (compiledAttributes text))
+
+-- and the column of a refusal, which a short buffer does not have
+abbrev pub cellsColumn : List ℕ → ℕ → ℕ
+cellsColumn text room = pick (ltb room cellCount) 0 (outcomeColumn (compiledAttributes text))
 
 -- so many numbers, one after another
 unfoldable pub numbersFrom : ℕ → ℕ → List ℕ

@@ -10,36 +10,50 @@ use typing::Entry;
 use windows::Window;
 ghost use mathlib.Core.Path.{_≡_};
 ghost use mathlib.Core.List.{map};
-ghost use Prim.Native.Nat.{_≤_};
+ghost use Prim.Native.Nat.{_≤_, min};
 ghost use lib.ListN.{length};
 ghost use Rattle.basics.specs.Refusals.{numberOf, fillingReply};
 ghost use Rattle.definitions.specs.Effects.{definitionLimit};
-ghost use Rattle.compiler.specs.Compile.{compileReply, compileWords};
+ghost use Rattle.compiler.specs.Compile.{compileReply, compileColumn, compileWords};
 ghost use Rattle.lookup.specs.Calls.{lookupReply, pagePlan, over, Pages};
 ghost use Rattle.windows.specs.Windows.{PagesWindows};
-ghost use Rattle.heathdapple.specs.Codes.{refusalCode, compileCode, answerCode, lookupCode, fillingCode, characterCode, typedCode, attributeCode, cellCount, entriesReply, entryCode, entriesAfter, cellsReply, cellsOf, cellsAfter};
+ghost use Rattle.heathdapple.specs.Codes.{refusalCode, compileCode, answerCode, lookupCode, fillingCode, characterCode, typedCode, attributeCode, cellCount, entriesReply, entryCode, entriesAfter, cellsReply, cellsColumn, cellsOf, cellsAfter};
 ghost use Rattle.heathdapple.specs.Internal.{EntriesFit};
 
-// A refusal as one number.
-fn refusal_code(refusal: Refusal, place: usize) -> u64
-    ensures { λ r. ⌜ r ≡ refusalCode (numberOf refusal) place ⌝ }
+// A number, or the most that may be given for it.
+fn at_most(n: usize, most: u64) -> u64
+    ensures { λ r. ⌜ r ≡ min n most ⌝ }
 {
-    let number = basics::number_of(refusal) as u64;
-    if place <= 0xFFFFFFFF {
-        return number * 0x100000000 + place as u64;
+    let given = n as u64;
+    if given <= most {
+        return given;
     }
-    number * 0x100000000 + 0xFFFFFFFF
+    most
 }
 
-// Compiles a text table into 2,048 words of `words`: the count of definitions, or the refusal with its line.
+// A refusal as one number.
+fn refusal_code(refusal: Refusal, column: usize, place: usize) -> u64
+    ensures { λ r. ⌜ r ≡ refusalCode (numberOf refusal) column place ⌝ }
+{
+    let number = basics::number_of(refusal) as u64;
+    let middle = at_most(column, 0xFFFF);
+    let low = at_most(place, 0xFFFFFFFF);
+    number * 0x1000000000000 + middle * 0x100000000 + low
+}
+
+// Compiles a text table into 2,048 words of `words`: the count of definitions, or the refusal with its line and column.
 #[no_mangle]
 pub extern "C" fn heathdapple_compile(text: &[u8], words: &mut [u32]) -> u64
-    ensures code { λ r. ⌜ r ≡ compileCode (compileReply (now (text .entry)) (length (now (words .entry)))) ⌝ }
+    ensures code { λ r. ⌜ r ≡ compileCode (compileColumn (now (text .entry)) (length (now (words .entry)))) (compileReply (now (text .entry)) (length (now (words .entry)))) ⌝ }
     ensures words { λ r. ⌜ now (words .exit) ≡ compileWords (now (text .entry)) (now (words .entry)) ⌝ }
 {
     match compiler::compile(text, words) {
         Compiled::Accepted(count) => count as u64,
-        Compiled::Refused(refusal, line) => refusal_code(refusal, line),
+        Compiled::Refused {
+            refusal,
+            line,
+            column,
+        } => refusal_code(refusal, column, line),
     }
 }
 
@@ -58,7 +72,7 @@ pub extern "C" fn heathdapple_look_up(words: &[u32], character: u32) -> u64
 {
     match lookup::look_up(words, character) {
         Looked::Answered(a) => answer_code(a),
-        Looked::Refused(refusal, place) => refusal_code(refusal, place),
+        Looked::Refused(refusal, place) => refusal_code(refusal, 0, place),
     }
 }
 
@@ -68,7 +82,7 @@ fn filling_code(answer: Filling) -> u64
 {
     match answer {
         Filling::Filled => 0,
-        Filling::Refused(refusal, place) => refusal_code(refusal, place),
+        Filling::Refused(refusal, place) => refusal_code(refusal, 0, place),
     }
 }
 
@@ -125,7 +139,7 @@ pub extern "C" fn heathdapple_typed(words: &[u32], cell: u8) -> u64
             let typed = e.types;
             character_code(typed)
         }
-        Filling::Refused(refusal, place) => refusal_code(refusal, place),
+        Filling::Refused(refusal, place) => refusal_code(refusal, 0, place),
     }
 }
 
@@ -153,7 +167,7 @@ pub extern "C" fn heathdapple_entries(words: &[u32], entries: &mut [u32]) -> u64
     ensures entries { λ r. ⌜ now (entries .exit) ≡ entriesAfter (now (words .entry)) (now (entries .entry)) ⌝ }
 {
     if entries.len() < CELL_COUNT {
-        return refusal_code(Refusal::ShortSlice, 0);
+        return refusal_code(Refusal::ShortSlice, 0, 0);
     }
     let typing = typing::typed_entries(words);
     let answer = typing.answer;
@@ -163,11 +177,11 @@ pub extern "C" fn heathdapple_entries(words: &[u32], entries: &mut [u32]) -> u64
             put_entries(typed, entries);
             0
         }
-        Filling::Refused(refusal, place) => refusal_code(refusal, place),
+        Filling::Refused(refusal, place) => refusal_code(refusal, 0, place),
     }
 }
 
-// The cell of an attribute byte by an attributes text, or the refusal of that text with its line.
+// The cell of an attribute byte by an attributes text, or the refusal of that text with its line and column.
 #[no_mangle]
 pub extern "C" fn heathdapple_attribute_cell(text: &[u8], byte: u8) -> u64
     ensures { λ r. ⌜ r ≡ attributeCode (now (text .entry)) byte ⌝ }
@@ -177,7 +191,11 @@ pub extern "C" fn heathdapple_attribute_cell(text: &[u8], byte: u8) -> u64
     let places = table.places;
     match answer {
         Compiled::Accepted(_) => attributes::attribute_cell(places, byte) as u64,
-        Compiled::Refused(refusal, line) => refusal_code(refusal, line),
+        Compiled::Refused {
+            refusal,
+            line,
+            column,
+        } => refusal_code(refusal, column, line),
     }
 }
 
@@ -193,14 +211,15 @@ fn put_cells(places: [Place; 8], cells: &mut [u8])
     }
 }
 
-// The cells of all attribute bytes by an attributes text, at the front of `cells`: the count of `dot` lines, or the refusal with its line.
+// The cells of all attribute bytes by an attributes text, at the front of `cells`: the count of `dot` lines, or the refusal with its line
+// and column.
 #[no_mangle]
 pub extern "C" fn heathdapple_attribute_cells(text: &[u8], cells: &mut [u8]) -> u64
-    ensures code { λ r. ⌜ r ≡ compileCode (cellsReply (now (text .entry)) (length (now (cells .entry)))) ⌝ }
+    ensures code { λ r. ⌜ r ≡ compileCode (cellsColumn (now (text .entry)) (length (now (cells .entry)))) (cellsReply (now (text .entry)) (length (now (cells .entry)))) ⌝ }
     ensures cells { λ r. ⌜ now (cells .exit) ≡ cellsAfter (now (text .entry)) (now (cells .entry)) ⌝ }
 {
     if cells.len() < CELL_COUNT {
-        return refusal_code(Refusal::ShortSlice, 0);
+        return refusal_code(Refusal::ShortSlice, 0, 0);
     }
     let table = attributes::compile_attributes(text);
     let answer = table.answer;
@@ -210,6 +229,10 @@ pub extern "C" fn heathdapple_attribute_cells(text: &[u8], cells: &mut [u8]) -> 
             put_cells(places, cells);
             lines as u64
         }
-        Compiled::Refused(refusal, line) => refusal_code(refusal, line),
+        Compiled::Refused {
+            refusal,
+            line,
+            column,
+        } => refusal_code(refusal, column, line),
     }
 }

@@ -1,15 +1,16 @@
--- What the loop over the bytes of a line goes by, and the CR at a line's end by position.
+-- What the loop over the bytes of a line goes by, the CR at a line's end by position, and columns.
 use Prim.Native.Nat.{ℕ, suc, _+_, _-_, _≤_, _<_}
 use mathlib.Core.Path.{_≡_, refl, sym, ap, _∙_}
 use mathlib.Core.List.{List, [], _∷_}
 use lib.ListN.{length, take, drop, getD, drop-of-length-le}
-use lib.Seq.{drop-cons}
+use lib.Seq.{drop-cons, length-take-le}
 use native.Mathlib.Nat.{add-zero}
 use native.Mathlib.Numerals.{add-one}
 use native.Mathlib.Omega.{arith}
 use borrow.Author.Tests.{eq-eqb, ne-eqb}
 use Rattle.lines.specs.Lines.{LF, CR, withoutCR}
-use Rattle.lines.specs.Internal.{toLF}
+use Rattle.lines.specs.Texts.{columnOf}
+use Rattle.lines.specs.Internal.{toLF, Trimmed}
 
 -- x is what the loop is to answer
 module _ (x : ℕ) (text : List ℕ) (i : ℕ) (inv : x ≡ i + toLF (drop i text)) where
@@ -45,3 +46,7 @@ unfolding withoutCR
 cr-none [] q = refl
 cr-none (b ∷ []) q = rw (ne-eqb _ _ q)
 cr-none (b ∷ c ∷ r) q = ap (λ (l : List ℕ). b ∷ l) (cr-none (c ∷ r) (rw (last-on r) at q))
+
+-- n bytes stand before the CR
+pub column-at : (line : List ℕ) (n left : ℕ) {r : ℕ} → Trimmed line n → r ≡ n - left + 1 → r ≡ columnOf (withoutCR line) left
+column-at line n left t h = rw (← t .is, length-take-le n line (t .within)) h

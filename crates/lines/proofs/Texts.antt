@@ -1,4 +1,4 @@
--- The lines of a text: a text that grows, the next line by position, and a loop over them.
+-- The lines of a text: a text that grows, the next line by position, a loop over them, and how far columns go.
 use Prim.Native.Nat.{ℕ, suc, _+_, _-_, _≤_, _<_}
 use mathlib.Core.Path.{_≡_, refl, _∙_}
 use mathlib.Core.Bool.{Bool, true, false}
@@ -6,14 +6,16 @@ use mathlib.Core.List.{List, [], _∷_, _++_}
 use native.Mathlib.Nat.{add-zero}
 use native.Mathlib.Numerals.{add-one}
 use native.Mathlib.Omega.{arith}
-use lib.Dec.{eqb}
+use lib.Dec.{eqb, ltb}
 use lib.ListN.{length, take, drop, length-drop, drop-of-length-le}
 use lib.Seq.{drop-drop}
+use borrow.Author.Tests.{ltb-true, ltb-false}
 use Rattle.basics.specs.Choice.{pick}
-use Rattle.basics.proofs.Tests.{by-cases}
+use Rattle.basics.proofs.Tests.{by-cases, either}
 use Rattle.basics.specs.declared.Refusal.{Refusal}
+use Rattle.basics.specs.declared.Refusal.the-variants.{LineTooLong}
 use Rattle.lines.specs.Lines.{LF, withByte, linesOf, withoutCR, isEnded}
-use Rattle.lines.specs.Texts.{Step, next, stop, Outcome, accepted, rejected, onStep, runLines}
+use Rattle.lines.specs.Texts.{textLimit, lineLimit, Step, next, stop, columnOf, Outcome, accepted, rejected, onStep, runLines, runText, outcomeColumn}
 use Rattle.lines.specs.Internal.{toLF, LineEnd, leaves}
 use Rattle.lines.specs.declared.Stopped.{Stopped}
 use Rattle.lines.specs.declared.Stopped.the-variants.{No, By}
@@ -61,8 +63,8 @@ module _ {S : Type 0} (step : S → List ℕ → Step S) where
   run-keeps P keeps [] n s {g} e h = let same : s ≡ g = cc in rw same at h
   run-keeps P keeps (l ∷ ls) n s {g} e h = go (λ s′. run-keeps P keeps ls (n + 1) s′) (step s (withoutCR l)) refl e
     where
-      go : ((s′ : S) → runLines step ls (n + 1) s′ ≡ accepted g → P s′ → P g) → (a : Step S) → step s (withoutCR l) ≡ a → onStep a n (λ s′. runLines step ls (n + 1) s′) ≡ accepted g → P g
-      go ih (stop r) q e = absurd (let z : _≡_ {A = ℕ} 0 1 = cc in omega arith)
+      go : ((s′ : S) → runLines step ls (n + 1) s′ ≡ accepted g → P s′ → P g) → (a : Step S) → step s (withoutCR l) ≡ a → onStep a (withoutCR l) n (λ s′. runLines step ls (n + 1) s′) ≡ accepted g → P g
+      go ih (stop r left) q e = absurd (let z : _≡_ {A = ℕ} 0 1 = cc in omega arith)
       go ih (next s′) q e = ih s′ e (keeps s (withoutCR l) s′ q h)
 
   -- where the first lines leave a state, the others go on from it
@@ -72,9 +74,9 @@ module _ {S : Type 0} (step : S → List ℕ → Step S) where
   run-append (x ∷ xs) ys n s {s′} e = go (λ s. run-append xs ys (n + 1) s) (step s (withoutCR x)) e
     where
       go : ((s : S) → runLines step xs (n + 1) s ≡ accepted s′ → runLines step (xs ++ ys) (n + 1) s ≡ runLines step ys ((n + 1) + length xs) s′)
-          → (a : Step S) → onStep a n (λ s. runLines step xs (n + 1) s) ≡ accepted s′
-          → onStep a n (λ s. runLines step (xs ++ ys) (n + 1) s) ≡ runLines step ys (n + suc (length xs)) s′
-      go ih (stop r) e = cc
+          → (a : Step S) → onStep a (withoutCR x) n (λ s. runLines step xs (n + 1) s) ≡ accepted s′
+          → onStep a (withoutCR x) n (λ s. runLines step (xs ++ ys) (n + 1) s) ≡ runLines step ys (n + suc (length xs)) s′
+      go ih (stop r left) e = cc
       go ih (next s₁) e =
           let same : (n + 1) + length xs ≡ n + suc (length xs) = omega arith in
           rw same at (ih s₁ e)
@@ -93,10 +95,38 @@ module _ {S : Type 0} (step : S → List ℕ → Step S) (text : List ℕ) (whol
 
   -- the next line ends at e; o and s′ are what it leaves
   module _ (e : ℕ) (o : Stopped) (s′ : S) (some : at < length text) (ends : LineEnd text at e) (does : leaves o s′ ≡ step s (withoutCR (take (e - at) (drop at text)))) where
-    pub line-refused : (refusal : Refusal) → o ≡ By refusal → whole ≡ rejected refusal n
+    pub line-refused : (refusal : Refusal) (left : ℕ) {column : ℕ} → o ≡ By refusal left → column ≡ columnOf (withoutCR (take (e - at) (drop at text))) left → whole ≡ rejected refusal n column
     unfolding runLines
-    line-refused refusal q = here .left ∙ rw (line-next text at e ends some, ← does, q)
+    line-refused refusal left q c = rw c (here .left ∙ rw (line-next text at e ends some, ← does, q))
 
     pub line-read : o ≡ No → Reached step text whole (e + 1) (n + 1) s′
     unfolding runLines
     line-read q = record { within = omega arith; count = omega arith; left = here .left ∙ rw (line-next text at e ends some, ← does, q) }
+
+-- ---- columns
+
+-- where a line that is too long is refused at the first byte too many, no column lies beyond that byte
+module _ {S : Type 0} (step : S → List ℕ → Step S) (long : (s : S) (line : List ℕ) → lineLimit < length line → step s line ≡ stop LineTooLong (length line - lineLimit)) where
+  line-column : (s : S) (line : List ℕ) (refusal : Refusal) (left : ℕ) → step s line ≡ stop refusal left → columnOf line left ≤ lineLimit + 1
+  line-column s line refusal left e =
+      by-cases (ltb lineLimit (length line))
+      (λ q.
+      let over = ltb-true lineLimit (length line) q in
+      let stops = long s line over in
+      let same : left ≡ length line - lineLimit = cc in
+      omega arith)
+      (λ q. omega (arith, ltb-false lineLimit (length line) q))
+
+  lines-column : (ls : List (List ℕ)) (n : ℕ) (s : S) → outcomeColumn (runLines step ls n s) ≤ lineLimit + 1
+  unfolding runLines
+  lines-column [] n s = omega arith
+  lines-column (l ∷ ls) n s = go (λ s′. lines-column ls (n + 1) s′) (step s (withoutCR l)) refl
+    where
+      go : ((s′ : S) → outcomeColumn (runLines step ls (n + 1) s′) ≤ lineLimit + 1) → (a : Step S) → step s (withoutCR l) ≡ a
+          → outcomeColumn (onStep a (withoutCR l) n (λ s′. runLines step ls (n + 1) s′)) ≤ lineLimit + 1
+      go ih (next s′) q = ih s′
+      go ih (stop refusal left) q = line-column s (withoutCR l) refusal left q
+
+  pub run-column : (s : S) (text : List ℕ) → outcomeColumn (runText step s text) ≤ lineLimit + 1
+  unfolding runText
+  run-column s text = either (λ (o : Outcome S). outcomeColumn o ≤ lineLimit + 1) (ltb textLimit (length text)) (omega arith) (lines-column (linesOf text) 1 s)

@@ -46,4 +46,4 @@ pub record NextWord (line : List ℕ) (at : ℕ) (w : Word) : Type 0 where
 -- a state beside the refusal that there may be
 abbrev pub leaves : {S : Type 0} → Stopped → S → Step S
 leaves No s = next s
-leaves (By refusal) s = stop refusal
+leaves (By refusal left) s = stop refusal left

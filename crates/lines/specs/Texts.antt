@@ -42,37 +42,53 @@ ifDirective (Fault refusal left) bad skipped read = bad refusal left
 ifDirective Skip bad skipped read = skipped
 ifDirective Directive bad skipped read = read
 
--- what a line does: it leaves a state, or is refused
+-- what a line does: it leaves a state, or is refused at the byte from which on so many are left
 pub data Step (S : Type 0) : Type 0 where
   next : S → Step S
-  stop : Refusal → Step S
+  stop : Refusal → ℕ → Step S
 
--- what a text gives: the state after its last line, or the first refusal with its line
+-- that byte's column: bytes count from 1, and the line's end is not counted
+abbrev pub columnOf : List ℕ → ℕ → ℕ
+columnOf line left = length line - left + 1
+
+-- what a text gives: the state after its last line, or the first refusal with its line and column
 pub data Outcome (S : Type 0) : Type 0 where
   accepted : S → Outcome S
-  rejected : Refusal → ℕ → Outcome S
+  rejected : Refusal → ℕ → ℕ → Outcome S
 
-abbrev pub onStep : {S : Type 0} → Step S → ℕ → (S → Outcome S) → Outcome S
-onStep (next s) n rest = rest s
-onStep (stop refusal) n rest = rejected refusal n
+-- what follows from a line, the n-th, and from the lines behind it
+abbrev pub onStep : {S : Type 0} → Step S → List ℕ → ℕ → (S → Outcome S) → Outcome S
+onStep (next s) line n rest = rest s
+onStep (stop refusal left) line n rest = rejected refusal n (columnOf line left)
 
 -- the lines that are left, the first of them the n-th
 unfoldable pub runLines : {S : Type 0} → (S → List ℕ → Step S) → List (List ℕ) → ℕ → S → Outcome S
 runLines step [] n s = accepted s
-runLines step (l ∷ ls) n s = onStep (step s (withoutCR l)) n (λ s′. runLines step ls (n + 1) s′)
+runLines step (l ∷ ls) n s =
+    let line : List ℕ = withoutCR l in
+    onStep (step s line) line n (λ s′. runLines step ls (n + 1) s′)
 
--- a whole text, from the state before its first line: refusal 1 has no line
+-- a whole text, from the state before its first line: refusal 1 has no line and no column
 unfoldable pub runText : {S : Type 0} → (S → List ℕ → Step S) → S → List ℕ → Outcome S
 runText step s text =
     let run = runLines step (linesOf text) 1 s in
-    pick (ltb textLimit (length text)) (rejected TextTooLong 0) run
+    pick (ltb textLimit (length text)) (rejected TextTooLong 0 0) run
 
 -- the compile call of a text: a count of what it gives, or the refusal with its line
 abbrev pub outcomeReply : {S : Type 0} → (S → ℕ) → Outcome S → Reply ℕ
 outcomeReply count (accepted s) = answered (count s)
-outcomeReply count (rejected refusal line) = refused (numberOf refusal) line
+outcomeReply count (rejected refusal line column) = refused (numberOf refusal) line
 
--- the number, place and value of each case of its answer
+-- and the column in that line, 0 where there is none
+abbrev pub outcomeColumn : {S : Type 0} → Outcome S → ℕ
+outcomeColumn (accepted s) = 0
+outcomeColumn (rejected refusal line column) = column
+
+-- the number, place and value of each case of its answer, and the column
 abbrev pub compiledReply : Compiled → Reply ℕ
 compiledReply (C.Accepted count) = answered count
-compiledReply (C.Refused refusal line) = refused (numberOf refusal) line
+compiledReply (C.Refused refusal line column) = refused (numberOf refusal) line
+
+abbrev pub compiledColumn : Compiled → ℕ
+compiledColumn (C.Accepted count) = 0
+compiledColumn (C.Refused refusal line column) = column

@@ -4,8 +4,9 @@ use unicode::Validity;
 ghost use mathlib.Core.Path.{_≡_};
 ghost use Prim.Native.Nat.{_≤_};
 ghost use lib.ListN.{length};
+ghost use Rattle.lines.specs.Lines.{withoutCR};
 ghost use Rattle.lines.specs.Words.{isBlank, sameBytes, isOver};
-ghost use Rattle.lines.specs.Texts.{openingOf};
+ghost use Rattle.lines.specs.Texts.{openingOf, columnOf};
 ghost use Rattle.lines.specs.Internal.{LineEnd, Trimmed, FirstAt, NextWord};
 
 // How many bytes a text may have, and a line without its end.
@@ -27,16 +28,22 @@ pub enum Opening {
     Directive,
 }
 
-// What a compile call answers: a count of what the text gave, or a refusal with its line.
+// What a compile call answers: a count of what the text gave, or a refusal with its line and its column there, 0 where it
+// has none.
 pub enum Compiled {
     Accepted(usize),
-    Refused(Refusal, usize),
+    Refused {
+        refusal: Refusal,
+        line: usize,
+        column: usize,
+    },
 }
 
-// Whether a line was refused; the state that it leaves stands beside.
+// Whether a line was refused, and how many bytes there are from the fault to its end; the state that it leaves stands
+// beside.
 pub enum Stopped {
     No,
-    By(Refusal),
+    By(Refusal, usize),
 }
 
 // Where the line that begins at `at` ends: at its LF, or at the end of the text.
@@ -66,6 +73,17 @@ pub fn trimmed(line: &[u8]) -> usize
         return n - 1;
     }
     n
+}
+
+// The column of the byte from which on `left` bytes are left of a line, its one CR not counted.
+pub fn column_of(line: &[u8], left: usize) -> usize
+    ensures { λ r. ⌜ r ≡ columnOf (withoutCR (now (line .entry))) left ⌝ }
+{
+    let n = trimmed(line);
+    if left < n {
+        return n - left + 1;
+    }
+    1
 }
 
 // Whether a byte is whitespace.

@@ -16,6 +16,19 @@ pub fn compile_text(answer: Compiled) -> Text {
     answers::text_of(&all[0..end])
 }
 
+// The same, and the column, 0 where there is none.
+pub fn column_text(answer: Compiled) -> Text {
+    let front = answers::push_bytes(compile_text(answer), b" column ");
+    match answer {
+        Compiled::Accepted(_) => answers::push_decimal(front, 0),
+        Compiled::Refused {
+            refusal: _,
+            line: _,
+            column,
+        } => answers::push_decimal(front, column as u64),
+    }
+}
+
 fn refusal_text(refusal: Refusal, place: usize) -> Text {
     let number = basics::number_of(refusal) as u64;
     let front = answers::push_decimal(answers::text_of(b"refused "), number);

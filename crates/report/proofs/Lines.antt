@@ -115,8 +115,8 @@ module _ (answer : Compiled) where
   report-accepted n a b r q f g h = whole-line _ r (grown-grown f (grown-grown g h)) ∙ rw q
 
   pub report-refused :
-      (refusal : Refusal) (number place : ℕ) (a b c d r : Line) → answer ≡ Refused refusal place → number ≡ numberOf refusal
+      (refusal : Refusal) (number place column : ℕ) (a b c d r : Line) → answer ≡ Refused refusal place column → number ≡ numberOf refusal
       → Grown empty (ascii "refused ") a → Grown a (decimal number) b → Grown b (ascii " line ") c
       → Grown c (decimal place) d → Grown d (10 ∷ []) r → r ≡ lineOf (reportOf (compiledReply answer))
-  report-refused refusal number place a b c d r q e f g h i j =
+  report-refused refusal number place column a b c d r q e f g h i j =
       whole-line _ r (grown-grown f (grown-grown g (grown-grown h (grown-grown i j)))) ∙ rw (q, e)

@@ -67,10 +67,14 @@ pub fn report(answer: Compiled) -> Line
             let line = with_number(with_text(empty, b"accepted "), count as u64);
             with_byte(line, b'\n')
         }
-        Compiled::Refused(refusal, place) => {
+        Compiled::Refused {
+            refusal,
+            line,
+            column: _,
+        } => {
             let number = basics::number_of(refusal) as u64;
             let front = with_number(with_text(empty, b"refused "), number);
-            let all = with_number(with_text(front, b" line "), place as u64);
+            let all = with_number(with_text(front, b" line "), line as u64);
             with_byte(all, b'\n')
         }
     }

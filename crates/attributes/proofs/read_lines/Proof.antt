@@ -28,6 +28,7 @@ read-lines-spec =
     (λ c κs. search needs)
     (λ c. search needs)
     (λ c κs. search needs)
+    (λ c κs. search needs)
     (λ c. refused-places _ (search line-refused) (c .refused-table .ensures .0) (c .refused-table .ensures .1))
     (λ c. search needs)
     (λ c. search needs)

@@ -1,7 +1,7 @@
 use borrow.Author.Needs.{needs}
 use native.Mathlib.Omega.{arith}
 use Rattle.table.proofs.Written.{zeroed-written}
-use Rattle.compiler.proofs.Call.{too-few, too-long, read-answer, read-words}
+use Rattle.compiler.proofs.Call.{too-few, too-long, read-answer, read-column, read-words}
 use Rattle.compiler.proofs.compile.Statement.{statement}
 use Rattle.compiler.proofs.compile.Tie as tie
 
@@ -14,4 +14,4 @@ compile-spec =
     (λ c κs. search needs)
     (λ c κs. (search zeroed-written, search needs))
     (λ c. search needs)
-    (λ c. (search read-answer, search read-words)))
+    (λ c. (search read-answer, (search read-column, search read-words))))

@@ -29,6 +29,7 @@ read-lines-spec =
     (λ c. search needs)
     (λ c κs. search needs)
     (λ c. search needs)
+    (λ c κs. search needs)
     (λ c. search needs)
     (λ c. search come-refused)
     (λ c. search needs)

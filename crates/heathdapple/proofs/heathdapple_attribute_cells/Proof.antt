@@ -1,6 +1,6 @@
 use borrow.Author.Needs.{needs}
-use Rattle.lines.specs.Texts.{compiledReply}
-use Rattle.heathdapple.proofs.WholeTables.{short-code, short-left, long-code, cells-left}
+use Rattle.lines.specs.Texts.{compiledReply, compiledColumn}
+use Rattle.heathdapple.proofs.WholeTables.{short-code, short-column, short-left, long-code, long-column, cells-left}
 use Rattle.heathdapple.proofs.heathdapple_attribute_cells.Statement.{statement}
 use Rattle.heathdapple.proofs.heathdapple_attribute_cells.Tie as tie
 
@@ -9,12 +9,12 @@ heathdapple-attribute-cells-spec =
     tie.close
     (tie.spec
     (λ c κs. search needs)
-    (λ c. (search (short-code (λ count. count)), search short-left))
+    (λ c. (search (short-code (λ count. count), short-column), search short-left))
     (λ c κs. search needs)
     (λ c. search needs)
     (λ c κs. search needs)
     (λ c. search needs)
     (λ c κs. search needs)
     (λ c. search needs)
-    (λ c. (search (long-code compiledReply (λ count. count)), search cells-left))
-    (λ c. (search (long-code compiledReply (λ count. count)), search cells-left)))
+    (λ c. (search (long-code compiledReply compiledColumn (λ count. count), long-column), search cells-left))
+    (λ c. (search (long-code compiledReply compiledColumn (λ count. count), long-column), search cells-left)))

@@ -1,14 +1,14 @@
 use Rattle.heathdapple.proofs.Codes.{code-of}
-use Rattle.lines.specs.Texts.{compiledReply}
+use Rattle.lines.specs.Texts.{compiledReply, compiledColumn}
 use borrow.Author.Needs.{needs}
 use Rattle.heathdapple.proofs.heathdapple_compile.Statement.{statement}
 use Rattle.heathdapple.proofs.heathdapple_compile.Tie as tie
 
 returns : tie.Need-returns
-returns c = search (code-of compiledReply (λ count. count))
+returns c = search (code-of compiledReply compiledColumn (λ count. count))
 
 returns-2 : tie.Need-returns-2
-returns-2 c = search (code-of compiledReply (λ count. count))
+returns-2 c = search (code-of compiledReply compiledColumn (λ count. count))
 
 pub heathdapple-compile-spec : {M : Type 1} → statement M
 heathdapple-compile-spec =

@@ -1,5 +1,6 @@
 use borrow.Author.Needs.{needs}
 use Rattle.basics.specs.Refusals.{fillingReply}
+use Rattle.heathdapple.proofs.Codes.{noColumn}
 use Rattle.heathdapple.proofs.WholeTables.{short-code, short-left, long-code, entries-fit, entries-left}
 use Rattle.heathdapple.proofs.heathdapple_entries.Statement.{statement}
 use Rattle.heathdapple.proofs.heathdapple_entries.Tie as tie
@@ -16,5 +17,5 @@ heathdapple-entries-spec =
     (λ c. search needs)
     (λ c κs. search needs)
     (λ c. search needs)
-    (λ c. (search (long-code fillingReply (λ u. 0)), search entries-left))
-    (λ c. (search (long-code fillingReply (λ u. 0)), search entries-left)))
+    (λ c. (search (long-code fillingReply noColumn (λ u. 0)), search entries-left))
+    (λ c. (search (long-code fillingReply noColumn (λ u. 0)), search entries-left)))

@@ -1,4 +1,4 @@
-use Rattle.heathdapple.proofs.Codes.{code-of}
+use Rattle.heathdapple.proofs.Codes.{noColumn, code-of}
 use Rattle.lookup.proofs.WholeWalks.{shown-small}
 use Rattle.lookup.specs.Calls.{lookedReply}
 use Rattle.heathdapple.specs.Codes.{answerCode}
@@ -7,10 +7,10 @@ use Rattle.heathdapple.proofs.heathdapple_look_up.Statement.{statement}
 use Rattle.heathdapple.proofs.heathdapple_look_up.Tie as tie
 
 returns : tie.Need-returns
-returns c = search (code-of lookedReply (λ a. answerCode a))
+returns c = search (code-of lookedReply noColumn (λ a. answerCode a))
 
 returns-2 : tie.Need-returns-2
-returns-2 c = search (code-of lookedReply (λ a. answerCode a))
+returns-2 c = search (code-of lookedReply noColumn (λ a. answerCode a))
 
 pub heathdapple-look-up-spec : {M : Type 1} → statement M
 heathdapple-look-up-spec =
