@@ -13,9 +13,13 @@ static uint32_t words[TABLE_WORDS];
 static uint32_t characters[LINE_LIMIT];
 static uint8_t cells[LINE_LIMIT], rules[LINE_LIMIT];
 
-/* Tells a refusal, which is number * 2^32 + place. */
+/* Tells a refusal, which is number * 2^48 + column * 2^32 + place, with column 0 where there is none. */
 static int refused(const char *what, uint64_t code) {
-    fprintf(stderr, "%s: refusal %u at place %u\n", what, (unsigned)(code >> 32), (unsigned)(code & 0xFFFFFFFF));
+    unsigned column = code >> 32 & 0xFFFF;
+    fprintf(stderr, "%s: refusal %u at place %u", what, (unsigned)(code >> 48), (unsigned)(code & 0xFFFFFFFF));
+    if (column)
+        fprintf(stderr, ", column %u", column);
+    fputc('\n', stderr);
     return EXIT_FAILURE;
 }
 
@@ -56,10 +60,10 @@ int main(int argc, char **argv) {
         return EXIT_FAILURE;
     }
     uint64_t code = heathdapple_compile(text, length, words, TABLE_WORDS);
-    if (code >> 32)
+    if (code >> 48)
         return refused(argv[1], code);
     code = heathdapple_page(words, TABLE_WORDS, characters, count, cells, LINE_LIMIT, rules, LINE_LIMIT);
-    if (code >> 32)
+    if (code >> 48)
         return refused("line", code);
     for (size_t i = 0; i < count; i++)
         printf("U+%04lX  cell %02X  \xE2%c%c  rule %u\n", (unsigned long)characters[i], cells[i],
