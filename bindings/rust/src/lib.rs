@@ -16,9 +16,9 @@
 //!
 //! ```
 //! let mut words = [0; heathdapple::TABLE_WORDS];
-//! let refusal = heathdapple::compile(b"char a 1\n\nglyph a 2\n", &mut words).unwrap_err();
-//! assert_eq!((refusal.number, refusal.place), (11, 3));
-//! assert_eq!(refusal.to_string(), "line 3: character or dot already defined (refusal 11)");
+//! let refusal = heathdapple::compile(b"char a 1\n\nifCell 1 glyph a 2\n", &mut words).unwrap_err();
+//! assert_eq!((refusal.number, refusal.place, refusal.column), (11, 3, 10));
+//! assert_eq!(refusal.to_string(), "line 3, column 10: character or dot already defined (refusal 11)");
 //! ```
 //!
 //! Linking needs `libheathdapple.a`: `rt staticlib heathdapple` in the repository's root builds it, and
@@ -65,19 +65,19 @@ pub struct Window {
     pub width: usize,
 }
 
-/// The value of a code, which is at most `most`, or its refusal. A greater value, which no call gives, is number 0.
+/// The value of a code, which is at most `most`, or its refusal, which is number * 2^48 + column * 2^32 + place. A greater
+/// value, which no call gives, is number 0.
 fn value(code: u64, most: u32) -> Result<u32, Refusal> {
-    let (number, low) = ((code >> 32) as u32, code as u32);
-    if number == 0 && low <= most {
-        Ok(low)
-    } else {
-        Err(Refusal { number, place: low })
+    match u32::try_from(code) {
+        Ok(value) if value <= most => Ok(value),
+        _ => Err(Refusal { number: (code >> 48) as u32, place: code as u32, column: (code >> 32 & 0xFFFF) as u32 }),
     }
 }
 
 /// Compiles a text table into the first 2,048 words; answers the count of definitions.
 ///
-/// A refusal zeroes the 2,048 words, but for 1 and 2, which touch nothing. Words beyond are never touched.
+/// A refusal has its line and its column. It zeroes the 2,048 words, but for 1 and 2, which touch nothing. Words beyond
+/// are never touched.
 pub fn compile(text: &[u8], words: &mut [u32]) -> Result<u32, Refusal> {
     value(library::compile(text, words), TABLE_WORDS as u32 / 2)
 }
@@ -134,7 +134,7 @@ pub fn entries(words: &[u32], entries: &mut [u32]) -> Result<(), Refusal> {
     value(library::entries(words, entries), 0).map(drop)
 }
 
-/// The cell of a VGA attribute byte by an attributes table's text.
+/// The cell of a VGA attribute byte by an attributes table's text, or the refusal of that text with its line and column.
 pub fn attribute_cell(text: &[u8], byte: u8) -> Result<u8, Refusal> {
     Ok(value(library::attribute_cell(text, byte), 255)? as u8)
 }
@@ -160,10 +160,24 @@ mod tests {
     fn codes() {
         assert_eq!(value(0, 0), Ok(0));
         assert_eq!(value(u64::from(u32::MAX), u32::MAX), Ok(u32::MAX));
-        assert_eq!(value(11 << 32 | 3, 1024), Err(Refusal { number: 11, place: 3 }));
-        assert_eq!(value(14 << 32 | 0xFFFF_FFFF, 0), Err(Refusal { number: 14, place: u32::MAX }));
-        assert_eq!(value(256, 255), Err(Refusal { number: 0, place: 256 }));
-        assert_eq!(value(u64::MAX, u32::MAX), Err(Refusal { number: u32::MAX, place: u32::MAX }));
+        for (code, most, [number, place, column]) in [
+            (11 << 48 | 10 << 32 | 3, 1024, [11, 3, 10]),
+            (18 << 48 | 3, 1024, [18, 3, 0]),
+            (3 << 48 | 1025 << 32 | 65_536, 1024, [3, 65_536, 1025]),
+            // The largest place and the largest column stand for greater ones too.
+            (14 << 48 | 0xFFFF_FFFF, 0, [14, u32::MAX, 0]),
+            (6 << 48 | 0xFFFF << 32 | 1, 1024, [6, 1, 0xFFFF]),
+            (1 << 48, u32::MAX, [1, 0, 0]),
+            (u64::MAX, u32::MAX, [0xFFFF, u32::MAX, 0xFFFF]),
+            // Values over what the call gives, also where only their high bits are.
+            (256, 255, [0, 256, 0]),
+            (1 << 32, 0, [0, 0, 1]),
+            (1 << 32, u32::MAX, [0, 0, 1]),
+            (1 << 47 | 5, 255, [0, 5, 0x8000]),
+            ((1 << 48) - 1, u32::MAX, [0, u32::MAX, 0xFFFF]),
+        ] {
+            assert_eq!(value(code, most), Err(Refusal { number, place, column }), "{code:X}");
+        }
     }
 
     #[test]
@@ -173,18 +187,29 @@ mod tests {
         assert_eq!(words[..5], [0x61, 0x0100_0001, 0x41, 0x0200_0041, 0]);
         assert_eq!(words[TABLE_WORDS], 7);
         assert_eq!(look_up(&words, 0xF0C5), Ok(Shown { cell: 0x41, rule: 21, links: 0 }));
-        assert_eq!(look_up(&words, 0xD800), Err(Refusal { number: 14, place: 0 }));
+        assert_eq!(look_up(&words, 0xD800), Err(Refusal { number: 14, place: 0, column: 0 }));
         let (mut cells, mut rules) = ([9; 3], [9; 2]);
         assert_eq!(page(&words, &[0x61, 0x2809], &mut cells, &mut rules), Ok(()));
         assert_eq!((cells, rules), ([1, 9, 9], [3, 1]));
-        assert_eq!(page(&words, &[0x61; 3], &mut cells, &mut rules), Err(Refusal { number: 2, place: 0 }));
+        assert_eq!(page(&words, &[0x61; 3], &mut cells, &mut rules), Err(Refusal { number: 2, place: 0, column: 0 }));
         assert_eq!((typed(&words, 0x01), typed(&words, 0x41)), (Ok(Some(0x61)), Ok(None)));
         let mut all = [9; CELLS];
         assert_eq!(entries(&words, &mut all), Ok(()));
         assert_eq!(all[..3], [0, 0x62, 0]);
         words[3] = 5;
-        assert_eq!(entries(&words, &mut all), Err(Refusal { number: 15, place: 1 }));
-        assert_eq!(typed(&[], 0), Err(Refusal { number: 2, place: 0 }));
+        assert_eq!(entries(&words, &mut all), Err(Refusal { number: 15, place: 1, column: 0 }));
+        assert_eq!(typed(&[], 0), Err(Refusal { number: 2, place: 0, column: 0 }));
+    }
+
+    #[test]
+    fn columns() {
+        let mut words = [7; TABLE_WORDS];
+        let text = "char é 1\r\nifGlyph é char € (1 9)\r\n";
+        assert_eq!(compile(text.as_bytes(), &mut words), Err(Refusal { number: 8, place: 2, column: 21 }));
+        assert_eq!(words, [0; TABLE_WORDS]);
+        assert_eq!(compile(b"ifGlyph a \n", &mut words), Err(Refusal { number: 18, place: 1, column: 0 }));
+        assert_eq!(compile(b"x", &mut words[1..]), Err(Refusal { number: 2, place: 0, column: 0 }));
+        assert_eq!(compile(&[b'\n'; 65_537], &mut words), Err(Refusal { number: 1, place: 0, column: 0 }));
     }
 
     #[test]
@@ -199,6 +224,7 @@ mod tests {
                 Ok(()) => Ok((cells, rules)),
                 Err(refusal) => {
                     assert_eq!((cells, rules), (vec![7; length], vec![8; length]));
+                    assert_eq!(refusal.column, 0);
                     Err((refusal.number, refusal.place))
                 }
             }
@@ -211,15 +237,18 @@ mod tests {
         assert_eq!(shown(&page, &[(0, 3), (2, 1)], 3), Err((2, 0)));
         assert_eq!(shown(&[0x61, 0xD800], &[(0, 1)], 1), Err((14, 1)));
         let list = [Window::default()];
-        assert_eq!(windows(&words[1..], &page, &list, &mut [], &mut []), Err(Refusal { number: 2, place: 0 }));
+        let refused = |number, place| Err(Refusal { number, place, column: 0 });
+        assert_eq!(windows(&words[1..], &page, &list, &mut [], &mut []), refused(2, 0));
         words[3] = 5;
-        assert_eq!(windows(&words, &[], &list, &mut [], &mut []), Err(Refusal { number: 15, place: 1 }));
+        assert_eq!(windows(&words, &[], &list, &mut [], &mut []), refused(15, 1));
     }
 
     #[test]
     fn attributes() {
         assert_eq!(attribute_cell(b"dot 8 =blink\n", 0x80), Ok(0x80));
-        assert_eq!(attribute_cell(b"dot 8 on\n", 0), Err(Refusal { number: 16, place: 1 }));
-        assert_eq!(attribute_cells(b"", &mut [0; 255]), Err(Refusal { number: 2, place: 0 }));
+        assert_eq!(attribute_cell(b"dot 8 on\n", 0), Err(Refusal { number: 16, place: 1, column: 7 }));
+        let refusal = Err(Refusal { number: 11, place: 2, column: 2 });
+        assert_eq!(attribute_cells(b"dot 1 =blink\n\tdot 1 =blink\n", &mut [0; 256]), refusal);
+        assert_eq!(attribute_cells(b"", &mut [0; 255]), Err(Refusal { number: 2, place: 0, column: 0 }));
     }
 }

@@ -1,10 +1,10 @@
 use std::error::Error;
 use std::fmt;
 
-/// A refusal by its number and place, and as an error with a message.
+/// A refusal by its number, place and column, and as an error with a message.
 ///
 /// ```
-/// let refusal = heathdapple::Refusal { number: 15, place: 2 };
+/// let refusal = heathdapple::Refusal { number: 15, place: 2, column: 0 };
 /// assert_eq!(refusal.to_string(), "pair 2: not a compiled table (refusal 15)");
 /// ```
 #[derive(Clone, Copy, Debug, PartialEq, Eq)]
@@ -14,10 +14,16 @@ pub struct Refusal {
     /// A line from 1, or a pair of words, a character or a window of a call's list from 0; 2^32 - 1 also for a greater
     /// one.
     pub place: u32,
+    /// Where on its line the text is at fault, in bytes from 1, for 3 to 13, 16 and 17; 0 for all other numbers.
+    ///
+    /// The first byte of the word or operand at fault; for 3 byte 1,025, for 4 the first byte of the bad sequence, for 6
+    /// one past the line's last byte, its end (LF, one CR) not counted, for 10 the condition word that is one too many, for
+    /// 11 to 13 the directive word that took effect. 2^16 - 1 also for a greater one, which no text has.
+    pub column: u32,
 }
 
 impl Refusal {
-    /// What the number says, without the place.
+    /// What the number says, without place and column.
     pub fn reason(self) -> &'static str {
         match self.number {
             0 => "not an answer of this call",
@@ -57,7 +63,11 @@ impl fmt::Display for Refusal {
             _ => "place",
         };
         if !place.is_empty() {
-            write!(f, "{place} {}: ", self.place)?;
+            write!(f, "{place} {}", self.place)?;
+            if self.column != 0 {
+                write!(f, ", column {}", self.column)?;
+            }
+            write!(f, ": ")?;
         }
         write!(f, "{} (refusal {})", self.reason(), self.number)
     }
@@ -71,19 +81,21 @@ mod tests {
 
     #[test]
     fn messages() {
-        for (number, place, message) in [
-            (0, 9, "answer 9: not an answer of this call (refusal 0)"),
-            (1, 0, "text over 65,536 bytes (refusal 1)"),
-            (12, 3, "line 3: alias loop (refusal 12)"),
-            (14, 7, "character 7: character to look up is no scalar (refusal 14)"),
-            (16, 1, "line 1: bad attribute state (refusal 16)"),
-            (17, 4, "line 4: `else` or `endIf` with no block open, or a second `else` (refusal 17)"),
-            (18, 2, "line 2: block open at the end of the text (refusal 18)"),
-            (19, 4, "window 4: window beyond the page (refusal 19)"),
-            (20, 4, "place 4: refused for a reason unknown here (refusal 20)"),
-            (u32::MAX, 0, "place 0: refused for a reason unknown here (refusal 4294967295)"),
+        for (number, place, column, message) in [
+            (0, 9, 0, "answer 9: not an answer of this call (refusal 0)"),
+            (1, 0, 0, "text over 65,536 bytes (refusal 1)"),
+            (3, 65_536, 1025, "line 65536, column 1025: line over 1,024 bytes (refusal 3)"),
+            (11, 3, 1, "line 3, column 1: character or dot already defined (refusal 11)"),
+            (12, 3, 65_535, "line 3, column 65535: alias loop (refusal 12)"),
+            (14, 7, 0, "character 7: character to look up is no scalar (refusal 14)"),
+            (16, 1, 7, "line 1, column 7: bad attribute state (refusal 16)"),
+            (17, 4, 2, "line 4, column 2: `else` or `endIf` with no block open, or a second `else` (refusal 17)"),
+            (18, 2, 0, "line 2: block open at the end of the text (refusal 18)"),
+            (19, 4, 0, "window 4: window beyond the page (refusal 19)"),
+            (20, 4, 0, "place 4: refused for a reason unknown here (refusal 20)"),
+            (u32::MAX, 0, 5, "place 0, column 5: refused for a reason unknown here (refusal 4294967295)"),
         ] {
-            assert_eq!(Refusal { number, place }.to_string(), message);
+            assert_eq!(Refusal { number, place, column }.to_string(), message);
         }
     }
 }

@@ -11,7 +11,7 @@ pub struct Table {
 }
 
 impl Table {
-    /// Compiles a text, or answers its refusal with the line.
+    /// Compiles a text, or answers its refusal with line and column.
     pub fn compile(text: &[u8]) -> Result<Table, Refusal> {
         let mut words = vec![0; TABLE_WORDS].into_boxed_slice();
         let definitions = crate::compile(text, &mut words)?;
@@ -85,8 +85,9 @@ mod tests {
 
     #[test]
     fn refused() {
-        assert_eq!(Table::compile(b"\nalias a a\n"), Err(Refusal { number: 12, place: 2 }));
-        assert_eq!(Table::compile(b"ifGlyph a\nendIf\nendIf\n"), Err(Refusal { number: 17, place: 3 }));
-        assert_eq!(Table::compile(b"\nifGlyph a\nelse\n"), Err(Refusal { number: 18, place: 2 }));
+        let refused = |number, place, column| Err(Refusal { number, place, column });
+        assert_eq!(Table::compile(b"\nifNotGlyph a alias a a\n"), refused(12, 2, 14));
+        assert_eq!(Table::compile(b"ifGlyph a\nendIf\n endIf\n"), refused(17, 3, 2));
+        assert_eq!(Table::compile(b"\nifGlyph a\nelse\n"), refused(18, 2, 0));
     }
 }
