@@ -52,7 +52,8 @@ fn pool_character(random: &mut Random) -> u32 {
         76..=81 => 0xFFFD,
         82..=88 => '?' as u32,
         89..=91 => 0xF000 + random.pick(&KNOWN) % 256,
-        92..=94 => 0x2800 + u32::from(random.byte()),
+        92 | 93 => 0x2800 + u32::from(random.byte()),
+        94..=97 => random.between(0x1_0000, 0x1_FFFF) as u32,
         _ => any_scalar(random),
     }
 }
@@ -113,6 +114,12 @@ const BAD_DOTS: [&str; 35] = [
 const BAD_CELLS: [&str; 12] = ["9", "11", "00", "01", "10", "(1)", "()", "(", "a", "#", "#1", "1#"];
 
 const AFTER: [&str; 11] = ["x", "1", "\\#", "x #", "\u{A0}", "\r #", "(1)", "char", "else", "endIf", "ifGlyph b"];
+
+fn trim_end(bytes: &mut Vec<u8>) {
+    while matches!(bytes.last(), Some(b' ' | b'\t')) {
+        bytes.pop();
+    }
+}
 
 fn add_character(bytes: &mut Vec<u8>, character: u32) {
     let character = char::from_u32(character).expect("a scalar");
@@ -390,9 +397,7 @@ impl Maker<'_> {
             self.condition_on(bytes, character, wished);
         }
         if self.random.percent(70) {
-            while matches!(bytes.last(), Some(b' ' | b'\t')) {
-                bytes.pop();
-            }
+            trim_end(bytes);
         }
         self.trail(bytes);
     }
@@ -469,10 +474,12 @@ impl Maker<'_> {
                 let kept = self.random.below(words.len());
                 for word in &words[..kept] {
                     bytes.extend(*word);
-                    bytes.push(b' ');
+                    self.blanks(&mut bytes);
                 }
                 if self.random.percent(40) {
                     bytes.push(b'#');
+                } else if self.random.percent(50) {
+                    trim_end(&mut bytes);
                 }
             }
             2 | 3 => {
@@ -645,8 +652,24 @@ impl Maker<'_> {
             self.blanks(&mut line);
             line.extend(self.random.pick(&AFTER).as_bytes());
         }
+        let line = spaced(self.random, &line);
         self.add(&line, false);
     }
+}
+
+/// A line at times with blanks before or behind it, or with a CR, which is one too many where the line ends by CR LF.
+fn spaced(random: &mut Random, line: &[u8]) -> Vec<u8> {
+    let mut blanks = || match random.below(25) {
+        0 => " ",
+        1 => "\t",
+        2 => "  ",
+        3 => " \t ",
+        4 => "    ",
+        _ => "",
+    };
+    let (before, behind) = (blanks(), blanks());
+    let end = if random.percent(10) { "\r" } else { "" };
+    [before.as_bytes(), line, behind.as_bytes(), end.as_bytes()].concat()
 }
 
 fn end_line(random: &mut Random, bytes: &mut Vec<u8>) {
@@ -737,6 +760,7 @@ pub fn text(random: &mut Random) -> Text {
             maker.add_faulty_blocks();
         } else {
             let line = maker.faulty_line();
+            let line = spaced(maker.random, &line);
             maker.add(&line, false);
         }
         let count = maker.random.below(3);
@@ -806,6 +830,16 @@ pub fn large_text(random: &mut Random) -> Text {
         if random.below(300) == 0 {
             bytes.extend(b"ifCell 8 glyph b 1\n");
         }
+        // No line defines these characters or types that cell, so the definition takes effect.
+        let front = match random.below(7) {
+            0 => " \t",
+            1 => "ifNotCell 8 ",
+            2 => "ifNotGlyph é ",
+            3 => "\tifNotGlyph ⠁ ifNotCell 8 ",
+            4 => "ifNotGlyph 𝄞\t",
+            _ => "",
+        };
+        bytes.extend(front.as_bytes());
         let line = match random.below(10) {
             0..=2 => {
                 let target = if random.percent(50) { character + 1 } else { 0x61 };
@@ -1044,7 +1078,7 @@ fn attributes_line(random: &mut Random) -> Vec<u8> {
     match random.below(20) {
         0 => {}
         1 => line += "#",
-        2 => line += "# dot 1 =blink",
+        2 => line += "# dot 1 =é€𝄞",
         _ => {
             line += "dot";
             line += blanks(random);
@@ -1054,7 +1088,7 @@ fn attributes_line(random: &mut Random) -> Vec<u8> {
             line += random.pick(&reference::NAMES).0;
             match random.below(10) {
                 0 => line += blanks(random),
-                1 => line += " # on",
+                1 => line += " # é€𝄞 on",
                 2 => line += "\t#",
                 _ => {}
             }
@@ -1100,7 +1134,8 @@ pub fn attributes_text(random: &mut Random) -> Vec<u8> {
         end_line(random, &mut bytes);
     }
     if (67..=84).contains(&mode) {
-        bytes.extend(faulty_attributes_line(random));
+        let line = faulty_attributes_line(random);
+        bytes.extend(spaced(random, &line));
         end_line(random, &mut bytes);
         bytes.extend(attributes_line(random));
         end_line(random, &mut bytes);

@@ -5,7 +5,9 @@ use harness::generate;
 use harness::random::Random;
 use harness::reference::{self, Refusal, Window, CONDITIONS, PAIRS, WORDS};
 use harness::side::{Side, HASHED, LIBRARY, REFERENCE};
+use std::collections::BTreeSet;
 use std::fmt::Debug;
+use std::ops::{Range, RangeInclusive};
 use std::process::exit;
 use std::time::Instant;
 
@@ -18,11 +20,18 @@ const TABLES: u64 = 20_000;
 const TABLES_FOR_WINDOWS: u64 = 30_000;
 const ATTRIBUTES_TEXTS: u64 = 25_000;
 const LEAST: u64 = 100;
+/// The least of what is met around a column, and the least columns of a number.
+const FEW: u64 = 10;
+const SEVERAL: usize = 3;
 /// Differences after which the run stops.
 const ENOUGH: u64 = 10;
 const GUARD: usize = 16;
 /// The highest number of a refusal.
 const REFUSALS: usize = 19;
+/// The refusals with a column that a text table and an attributes table can have.
+const WITH_COLUMN: [&[usize]; 2] = [&[3, 4, 5, 6, 7, 8, 9, 10, 11, 12, 13, 17], &[3, 4, 5, 6, 8, 9, 11, 16]];
+const TEXT_TABLE: usize = 0;
+const ATTRIBUTES_TABLE: usize = 1;
 const RULES: [usize; 15] = [1, 3, 4, 5, 6, 7, 8, 9, 19, 20, 21, 22, 23, 24, 25];
 
 /// Lengths of a buffer for all 256 cells or bytes.
@@ -35,15 +44,26 @@ const BLOCK_LINES: [&str; 13] = [
     "ifNotGlyph a\n",
     "ifNotGlyph a ifGlyph b\n",
     "ifGlyph b ifNotGlyph a # c\r\n",
-    "else\n",
-    "endIf\n",
+    " else\n",
+    "\tendIf \n",
     "char a 1\n",
     "ifGlyph a char b 1\n",
-    "else x\n",
-    "endIf x\n",
-    "ifGlyph a endIf\n",
-    "char b\n",
+    "else \tx\n",
+    "  endIf  x\n",
+    "ifGlyph a  endIf\n",
+    "char b \r\n",
 ];
+
+/// Words of which every five are put on a line, so every four and fewer too, and lines before it.
+const LINE_WORDS: [&str; 14] =
+    ["", "char", "alias", "ifNotGlyph", "ifNotCell", "endIf", "é", "€", "𝄞", "1", "(1 2)", "(1 9)", "#", "\r"];
+const BEFORE_WORDS: &str = "glyph é 1\nalias € 𝄞\n";
+
+/// Words of attributes tables of which every four are put on a line, and a line before it.
+const ATTRIBUTES_WORDS: [&str; 10] = ["", "dot", "1", "2", "9", "=blink", "~fg-red", "é", "#", "\r"];
+const BEFORE_ATTRIBUTES_WORDS: &str = "dot 1 =blink\n";
+
+const LINE_ENDS: [&str; 8] = ["", "\n", "\r", "\r\n", "\r\r\n", "  \n", "\t\r\n", " \r\r\n"];
 
 const CALLS: [&str; 8] = ["compile", "look_up", "page", "windows", "typed", "entries", "attribute", "attributes"];
 const COMPILE: usize = 0;
@@ -121,6 +141,45 @@ fn windows_meet(
     ]
 }
 
+/// What may be around the byte of a line that a column names.
+const COLUMN_MEETS: usize = 8;
+
+/// For a line with its end.
+fn column_meets(line: &[u8], column: usize) -> [(&'static str, bool); COLUMN_MEETS] {
+    let before = &line[..column - 1];
+    let bare = reference::lines(line).next().unwrap_or_default();
+    let holds = |leads: RangeInclusive<u8>| before.iter().any(|byte| leads.contains(byte));
+    [
+        ("behind 1", column > 1),
+        ("2 bytes", holds(0xC2..=0xDF)),
+        ("3 bytes", holds(0xE0..=0xEF)),
+        ("4 bytes", holds(0xF0..=0xF4)),
+        ("condition", before.trim_ascii_start().starts_with(b"if")),
+        ("blank last", bare.ends_with(b" ") || bare.ends_with(b"\t")),
+        ("CR LF", line.ends_with(b"\r\n")),
+        ("CR CR LF", line.ends_with(b"\r\r\n")),
+    ]
+}
+
+/// Which of these each number is to be met with. `else` and `endIf` stand first on their line; in an attributes table only
+/// a bad sequence has characters of several bytes before it.
+fn columns_due(table: usize, number: usize) -> Range<usize> {
+    match (table, number) {
+        (TEXT_TABLE, 6) => 0..COLUMN_MEETS,
+        (TEXT_TABLE, 4..=13) => 0..5,
+        (ATTRIBUTES_TABLE, 4) => 0..4,
+        _ => 0..1,
+    }
+}
+
+/// The columns of a number's refusals.
+#[derive(Clone, Default)]
+struct Columns {
+    refusals: u64,
+    columns: BTreeSet<u32>,
+    met: [(&'static str, u64); COLUMN_MEETS],
+}
+
 /// A call that fills a cell and a rule buffer.
 type Fill<'a> = &'a dyn Fn(&Side, &mut [u8], &mut [u8]) -> Result<(), Refusal>;
 
@@ -151,6 +210,7 @@ struct Run {
     case: String,
     calls: [u64; CALLS.len()],
     refusals: [[u64; REFUSALS + 1]; CALLS.len()],
+    columns: [[Columns; REFUSALS + 1]; 2],
     windows_met: [(&'static str, u64); WINDOWS_MEET],
     /// Page calls beside accepted windows calls.
     pages_beside: u64,
@@ -221,6 +281,26 @@ impl Run {
         self.calls[call] += 1;
         if let Err(refusal) = answer {
             self.refusals[call][refusal.number as usize] += 1;
+        }
+    }
+
+    /// Counts where on its line a table's text is at fault.
+    fn tally_column<T>(&mut self, table: usize, text: &[u8], answer: &Result<T, Refusal>) {
+        let Err(refusal) = answer else {
+            return;
+        };
+        let Refusal { number, place, column } = *refusal;
+        let number = number as usize;
+        assert_eq!(column > 0, WITH_COLUMN[table].contains(&number), "{refusal:?}");
+        if column == 0 {
+            return;
+        }
+        let line = text.split_inclusive(|byte| *byte == b'\n').nth(place as usize - 1).expect("a line of the text");
+        let columns = &mut self.columns[table][number];
+        columns.refusals += 1;
+        columns.columns.insert(column);
+        for (count, (name, met)) in columns.met.iter_mut().zip(column_meets(line, column as usize)) {
+            *count = (name, count.1 + u64::from(met));
         }
     }
 
@@ -324,6 +404,7 @@ impl Run {
             let [answer, other] = [&REFERENCE, side].map(|side| compiled(side, &small).0);
             format!("text \"{}\"\n  smaller \"{}\": {answer:?} and {other:?}", shown(text), shown(&small))
         });
+        self.tally_column(TEXT_TABLE, text, &answer);
         (words, answer.ok().map(|count| count as usize))
     }
 
@@ -547,6 +628,19 @@ impl Run {
         *self.random.pick(&[0, 1, 2, 1024, 2046, 2047, 2047, 2047])
     }
 
+    /// A line of `count` words, those of the case, with any blanks and any end.
+    fn line(&mut self, words: &[&str], count: u32, case: u64) -> String {
+        let mut line = self.random.pick(&["", "", " ", "\t "]).to_string();
+        let mut rest = case as usize;
+        for _ in 0..count {
+            line += words[rest % words.len()];
+            line += *self.random.pick(&[" ", " ", "\t", "  "]);
+            rest /= words.len();
+        }
+        line.truncate(line.trim_end_matches([' ', '\t']).len());
+        line + *self.random.pick(&LINE_ENDS)
+    }
+
     /// Everything on one text.
     fn text(&mut self, text: &generate::Text, lookups: usize, all_cells: bool, damaged: usize) {
         let length = self.length_of_slice();
@@ -604,7 +698,7 @@ impl Run {
         let text = &placed[start..start + text.len()];
         for _ in 0..2 {
             let byte = self.random.byte();
-            let _ = self.asking(
+            let answer = self.asking(
                 ATTRIBUTE_CELL,
                 |side| (side.attribute_cell)(text, byte),
                 |side| {
@@ -613,6 +707,7 @@ impl Run {
                     format!("byte {byte:02X}, text \"{}\"\n  smaller \"{}\"", shown(text), shown(&small))
                 },
             );
+            self.tally_column(ATTRIBUTES_TABLE, text, &answer);
         }
         let length = *self.random.pick(&LENGTHS);
         let before = self.random_bytes(length + 2 * GUARD);
@@ -652,6 +747,7 @@ fn main() {
         case: String::new(),
         calls: [0; CALLS.len()],
         refusals: [[0; REFUSALS + 1]; CALLS.len()],
+        columns: Default::default(),
         windows_met: [("", 0); WINDOWS_MEET],
         pages_beside: 0,
         rules: [0; 32],
@@ -766,6 +862,14 @@ fn main() {
         }
         run.compile(text.as_bytes(), WORDS);
     });
+    part("any five words", 14, (LINE_WORDS.len() as u64).pow(5), &|run, case| {
+        let text = BEFORE_WORDS.to_string() + &run.line(&LINE_WORDS, 5, case);
+        run.compile(text.as_bytes(), WORDS);
+    });
+    part("any four words", 15, (ATTRIBUTES_WORDS.len() as u64).pow(4), &|run, case| {
+        let text = BEFORE_ATTRIBUTES_WORDS.to_string() + &run.line(&ATTRIBUTES_WORDS, 4, case);
+        run.attributes(text.as_bytes());
+    });
     part("any two bytes", 8, 1 << 16, &|run, case| {
         let two = [(case >> 8) as u8, case as u8];
         run.compile(&[b"char ", two.as_slice(), b" 1"].concat(), WORDS);
@@ -776,7 +880,8 @@ fn main() {
         let at = |k: u64| [0x0A, 0x7F, 0x80, 0x8F, 0x90, 0x9F, 0xA0, 0xBF, 0xC0, 0xFF][(k % 10) as usize];
         let sequence = [0xC0 + (case / 1000) as u8, at(case), at(case / 10), at(case / 100)];
         let kept = 1 + run.random.below(4);
-        run.compile(&[b"#", &sequence[..kept]].concat(), WORDS);
+        let front = *run.random.pick(&["#", "# é", "#€", "#𝄞", "#é€𝄞"]);
+        run.compile(&[front.as_bytes(), &sequence[..kept]].concat(), WORDS);
         run.compile(&[b"glyph ", sequence.as_slice(), b" 1"].concat(), WORDS);
     });
     part("every character", 10, 3, &|run, case| {
@@ -818,7 +923,7 @@ fn main() {
     print!("  {:<12}", "calls");
     run.calls.iter().for_each(|count| print!("{count:>12}"));
     println!("{all_calls:>12}");
-    let mut short = Vec::new();
+    let (mut short, mut rare) = (Vec::new(), Vec::new());
     for number in 1..=REFUSALS {
         let counts: Vec<u64> = run.refusals.iter().map(|call| call[number]).collect();
         let all: u64 = counts.iter().sum();
@@ -827,6 +932,27 @@ fn main() {
         println!("{all:>12}");
         if all < LEAST {
             short.push(format!("refusal {number}"));
+        }
+    }
+    for (table, name) in [(TEXT_TABLE, "text tables"), (ATTRIBUTES_TABLE, "attributes tables")] {
+        println!("columns of refusals of {name}, what is before them on the line, and how it ends:");
+        print!("  {:<12}{:>12}{:>12}", "", "refusals", "columns");
+        column_meets(b"", 1).iter().for_each(|(name, _)| print!("{name:>12}"));
+        println!();
+        for &number in WITH_COLUMN[table] {
+            let Columns { refusals, columns, met } = &run.columns[table][number];
+            print!("  refusal {number:<4}{refusals:>12}{:>12}", columns.len());
+            met.iter().for_each(|(_, count)| print!("{count:>12}"));
+            println!();
+            // 3 is always at the same.
+            if number != 3 && columns.len() < SEVERAL {
+                rare.push(format!("columns of refusal {number} of {name}"));
+            }
+            for (fact, count) in &met[columns_due(table, number)] {
+                if *count < FEW {
+                    rare.push(format!("refusal {number} of {name}, {fact}"));
+                }
+            }
         }
     }
     for rule in RULES {
@@ -855,6 +981,9 @@ fn main() {
     }
     if !short.is_empty() {
         fail(format!("seen less than {LEAST} times: {}", short.join(", ")));
+    }
+    if !rare.is_empty() {
+        fail(format!("less than {SEVERAL} columns, or seen less than {FEW} times: {}", rare.join(", ")));
     }
     if 2 * run.texts.accepted < run.texts.all {
         fail("less than half of the texts were accepted".into());

@@ -1,5 +1,5 @@
-//! The worked examples and edges of document 01, the blocks and windows of document 02 and the settled readings, with the
-//! answers written out, on every side.
+//! The worked examples and edges of document 01, the blocks, windows and columns of document 02 and the settled readings,
+//! with the answers written out, on every side.
 
 use harness::reference::{self, Place, Refusal, Shown, Window, WORDS};
 use harness::side::SIDES;
@@ -15,7 +15,9 @@ fn compiled(text: &[u8]) -> Vec<u32> {
     words
 }
 
+/// Number and place of a refusal, which has a column exactly if it is of a number with one.
 fn pair(refusal: Refusal) -> (u32, u32) {
+    assert_eq!(refusal.column > 0, matches!(refusal.number, 3..=13 | 16 | 17), "{refusal}");
     (refusal.number, refusal.place)
 }
 
@@ -123,7 +125,7 @@ fn lengths() {
     for side in SIDES {
         for length in [0, 1, 2047] {
             let mut words = vec![5; length];
-            let short = Err(Refusal { number: 2, place: 0 });
+            let short = Err(Refusal { number: 2, place: 0, column: 0 });
             assert_eq!((side.compile)(b"", &mut words), short, "{}", side.name);
             assert_eq!((side.compile)(&[b'\n'; 65_537], &mut words), short, "{}", side.name);
             assert!(words.iter().all(|word| *word == 5), "{}", side.name);
@@ -624,6 +626,308 @@ fn repeats_and_loops() {
     accepts("alias a b\nalias b c\nalias d a", &[alias_pair('a', 'b'), alias_pair('b', 'c'), alias_pair('d', 'a')]);
 }
 
+/// Refused text tables with number, line and column.
+fn columns<T: AsRef<[u8]>>(table: &[(T, [u32; 3])]) {
+    for (text, [number, place, column]) in table {
+        let text = text.as_ref();
+        expect_bytes(text, Err((*number, *place)), None);
+        let refusal = Refusal { number: *number, place: *place, column: *column };
+        for side in SIDES {
+            let got = (side.compile)(text, &mut [0; WORDS]);
+            assert_eq!(got, Err(refusal), "{}: {:?}", side.name, String::from_utf8_lossy(text));
+        }
+    }
+}
+
+// In what follows é has two bytes, € three and 𝄞 four.
+
+#[test]
+fn columns_of_long_lines() {
+    columns(&[
+        (format!("char a 1{}", " ".repeat(1017)), [3, 1, 1025]),
+        (format!("char a 1{}\r\r\n", " ".repeat(1016)), [3, 1, 1025]),
+        (format!("\r\n#{}\n", "x".repeat(3000)), [3, 2, 1025]),
+        // Byte 1,025 is inside a character.
+        (format!("#{}", "é".repeat(512)), [3, 1, 1025]),
+        (format!("ifGlyph é char 𝄞 9{}", " ".repeat(1025)), [3, 1, 1025]),
+    ]);
+    columns(&[([0xFFu8; 1025], [3, 1, 1025])]);
+}
+
+#[test]
+fn columns_of_bad_sequences() {
+    columns::<&[u8]>(&[
+        (b"\xFF", [4, 1, 1]),
+        (b"char \xFF 1", [4, 1, 6]),
+        (b"#\n \xFE", [4, 2, 2]),
+        // The lead byte of one that is overlong, a surrogate, too high.
+        (b"# \xC0\x80", [4, 1, 3]),
+        (b"# \xE0\x80\x80", [4, 1, 3]),
+        (b"# \xF0\x8F\xBF\xBF", [4, 1, 3]),
+        (b"#\n \xED\xA0\x80", [4, 2, 2]),
+        (b"x \xF4\x90\x80\x80", [4, 1, 3]),
+        (b"#\xF5\x80\x80\x80", [4, 1, 2]),
+        (b"#\xF8\x88\x80\x80\x80", [4, 1, 2]),
+        // Cut by the line's end, by another character or by another lead byte.
+        (b"# \xC3", [4, 1, 3]),
+        (b"# \xE2\x82", [4, 1, 3]),
+        (b"# \xE2\x82\nx", [4, 1, 3]),
+        (b"# \xE2\x82\r\n", [4, 1, 3]),
+        (b"# \xE2\x82\r\r\n", [4, 1, 3]),
+        (b"# \xF0\x9D\x84x", [4, 1, 3]),
+        (b"# \xE2\x82 \xFF", [4, 1, 3]),
+        (b"# \xC3\xC3\xA9", [4, 1, 3]),
+        (b"#\xF0\x9D\xE2\x82\xAC", [4, 1, 2]),
+        // A stray continuation is its own sequence, also right behind a whole character.
+        (b"\x80", [4, 1, 1]),
+        (b"# \xBF", [4, 1, 3]),
+        (b"# \xC3\xA9\x80", [4, 1, 5]),
+        (b"# \xE2\x82\xAC\xAC", [4, 1, 6]),
+        (b"# \xF0\x9D\x84\x9E\xBF\xBF", [4, 1, 7]),
+        // Behind characters of two, three and four bytes, a byte order mark, a condition.
+        (b"# \xC3\xA9 \xC3", [4, 1, 6]),
+        (b"# \xE2\x82\xAC \xFF", [4, 1, 7]),
+        (b"# \xF0\x9D\x84\x9E \xED\xBF\xBF", [4, 1, 8]),
+        (b"# \xC3\xA9\xE2\x82\xAC\xF0\x9D\x84\x9E\xF0\x9D\x84", [4, 1, 12]),
+        (b"\xEF\xBB\xBF\xFF", [4, 1, 4]),
+        (b"ifGlyph \xC3\xA9 char \xC3 1", [4, 1, 17]),
+        // Before any fault of the words, wherever it stands.
+        (b"Char ab 9 x\xFF", [4, 1, 12]),
+    ]);
+    let mut full = [b'#'; 1024];
+    full[1023] = 0xC3;
+    columns(&[(full, [4, 1, 1024])]);
+}
+
+#[test]
+fn columns_of_directive_words() {
+    columns(&[
+        ("x", [5, 1, 1]),
+        ("Char a 1", [5, 1, 1]),
+        (" \tx", [5, 1, 3]),
+        ("\u{FEFF}char a 1", [5, 1, 1]),
+        ("\r\r\n", [5, 1, 1]),
+        ("\n\r\n\tx\r\n", [5, 3, 2]),
+        ("char a 1\n    char# b 1", [5, 2, 5]),
+        // Behind conditions.
+        ("ifGlyph a foo \\q", [5, 1, 11]),
+        ("ifGlyph é foo", [5, 1, 12]),
+        ("ifGlyph € foo", [5, 1, 13]),
+        ("ifGlyph 𝄞 foo", [5, 1, 14]),
+        ("ifGlyph 𝄞 ifNotGlyph € ifGlyph é x", [5, 1, 40]),
+        ("ifCell 1 \t else", [5, 1, 12]),
+        ("ifGlyph a endIf", [5, 1, 11]),
+        ("ifGlyph # note", [5, 1, 11]),
+        ("ifGlyph \\u00E9 é", [5, 1, 16]),
+        // In blocks, taken or not.
+        ("ifGlyph a\n else#", [5, 2, 2]),
+        ("ifNotGlyph a\n\tifGlyph é x", [5, 2, 13]),
+        // 17: the same.
+        ("else", [17, 1, 1]),
+        (" \tendIf", [17, 1, 3]),
+        ("endIf x", [17, 1, 1]),
+        ("char a 1\r\n\tendIf\r\n", [17, 2, 2]),
+        ("ifGlyph a\nelse\n  else x", [17, 3, 3]),
+        ("ifGlyph é\n ifGlyph €\n else\n\t \t else # 𝄞\n", [17, 4, 5]),
+    ]);
+}
+
+#[test]
+fn columns_of_missing_operands() {
+    columns(&[
+        ("char", [6, 1, 5]),
+        ("char ", [6, 1, 6]),
+        ("char a", [6, 1, 7]),
+        ("char a\nchar b 1", [6, 1, 7]),
+        // Blanks at the end count, its LF and one CR do not.
+        ("char a  ", [6, 1, 9]),
+        ("char a\t \t\nchar b 1", [6, 1, 10]),
+        ("char a\r\n", [6, 1, 7]),
+        ("char a\r", [6, 1, 7]),
+        ("char a \r\n", [6, 1, 8]),
+        ("\n\nalias a \r\n", [6, 3, 9]),
+        // Any other CR does; here it is the character.
+        ("char \r\n", [6, 1, 6]),
+        ("char \r\r\n", [6, 1, 7]),
+        ("char \r\r", [6, 1, 7]),
+        ("char \r \r\n", [6, 1, 8]),
+        ("char \r \t\n", [6, 1, 9]),
+        // A `#` where an operand is due begins no comment.
+        ("char #", [6, 1, 7]),
+        ("char # ", [6, 1, 8]),
+        ("alias é", [6, 1, 9]),
+        ("alias €", [6, 1, 10]),
+        ("alias 𝄞 ", [6, 1, 12]),
+        ("byte é\t", [6, 1, 9]),
+        ("glyph \\U0001D11E", [6, 1, 17]),
+        ("ifGlyph", [6, 1, 8]),
+        ("  ifNotCell\t", [6, 1, 13]),
+        ("ifGlyph é ifCell", [6, 1, 18]),
+        ("ifGlyph 𝄞 char €", [6, 1, 22]),
+        ("ifGlyph a\nifGlyph € \r\n  alias  é  \r\nendIf", [6, 3, 14]),
+    ]);
+    let full = format!("char a{}", " ".repeat(1018));
+    columns(&[(full.clone(), [6, 1, 1025]), (full + "\r\n", [6, 1, 1025])]);
+}
+
+#[test]
+fn columns_of_characters() {
+    columns(&[
+        ("char ab 1", [7, 1, 6]),
+        ("char \\q 1", [7, 1, 6]),
+        ("char \\ 145", [7, 1, 6]),
+        ("char (1) 1", [7, 1, 6]),
+        ("  char\t\\uD800 1", [7, 1, 8]),
+        ("char \u{A0}\u{A0} 1", [7, 1, 6]),
+        ("alias a bc", [7, 1, 9]),
+        ("alias é bc", [7, 1, 10]),
+        ("alias € #note", [7, 1, 11]),
+        ("alias 𝄞 \\x4", [7, 1, 12]),
+        ("alias \\u00E9 \t\\", [7, 1, 15]),
+        ("byte \\u0041 1", [7, 1, 6]),
+        ("byte   € 1", [7, 1, 8]),
+        ("ifGlyph \\q foo", [7, 1, 9]),
+        ("ifGlyph é ifNotGlyph éé", [7, 1, 23]),
+        ("ifGlyph 𝄞 ifGlyph € char é\\ 1", [7, 1, 31]),
+        ("char a\r\r\n", [7, 1, 6]),
+        ("#\nifNotCell 1 glyph a\r\r\n", [7, 2, 19]),
+    ]);
+}
+
+#[test]
+fn columns_of_dots() {
+    columns(&[
+        ("char a 9", [8, 1, 8]),
+        ("char a 121", [8, 1, 8]),
+        ("char a # note", [8, 1, 8]),
+        ("char a 1\r\r\n", [8, 1, 8]),
+        ("char a  \t9 x", [8, 1, 10]),
+        // The opening parenthesis, whatever is bad, also behind the closing one.
+        ("char a (1 9)", [8, 1, 8]),
+        ("char a (1 2", [8, 1, 8]),
+        ("char a (1 2  \r\n", [8, 1, 8]),
+        ("char a (", [8, 1, 8]),
+        ("char a ( ", [8, 1, 8]),
+        ("char a (1)x", [8, 1, 8]),
+        ("char a (12)#c", [8, 1, 8]),
+        ("char a ((1))", [8, 1, 8]),
+        ("char a (1 2 1) # x", [8, 1, 8]),
+        ("char a (1\r)\n", [8, 1, 8]),
+        ("char a (1 2)\r\r\n", [8, 1, 8]),
+        ("char a  \t(0)", [8, 1, 10]),
+        ("char a )", [8, 1, 8]),
+        ("char é 9", [8, 1, 9]),
+        ("char € (1 x)", [8, 1, 10]),
+        ("glyph 𝄞 (1", [8, 1, 12]),
+        ("byte é 1(2)", [8, 1, 9]),
+        // Cells.
+        ("ifCell 9 ifGlyph", [8, 1, 8]),
+        ("ifNotCell (1) char a 1", [8, 1, 11]),
+        ("ifCell # char a 1", [8, 1, 8]),
+        ("ifGlyph é ifCell 11", [8, 1, 19]),
+        ("ifGlyph € char 𝄞 (1 2 é)", [8, 1, 23]),
+        ("ifGlyph a\n\tifCell 1 char a  9\nendIf", [8, 2, 19]),
+    ]);
+}
+
+#[test]
+fn columns_of_text_behind() {
+    columns(&[
+        // The first word behind the last operand, not the byte behind that.
+        ("char a 1 x", [9, 1, 10]),
+        ("char a 1  \tx", [9, 1, 12]),
+        ("char a (1) x", [9, 1, 12]),
+        ("char a (1 2)   3", [9, 1, 16]),
+        ("char a ()\t()", [9, 1, 11]),
+        ("char a 1 \\#", [9, 1, 10]),
+        ("char a 1 x # y", [9, 1, 10]),
+        ("char a 1 é # y", [9, 1, 10]),
+        ("char a 1 \r\r\n", [9, 1, 10]),
+        ("char a 1 \r #\r\n", [9, 1, 10]),
+        ("alias a # note", [9, 1, 11]),
+        ("alias é € x", [9, 1, 14]),
+        ("glyph 𝄞 1 x", [9, 1, 14]),
+        // Whether or not the conditions hold.
+        ("ifGlyph b char a 1 x", [9, 1, 20]),
+        ("ifNotGlyph b char a 1 x", [9, 1, 23]),
+        ("ifGlyph é char € 1 x", [9, 1, 23]),
+        ("ifGlyph a\nelse x\nendIf", [9, 2, 6]),
+        ("ifGlyph a\n\tendIf  x", [9, 2, 9]),
+        ("ifGlyph a\nelse ifGlyph b", [9, 2, 6]),
+    ]);
+}
+
+#[test]
+fn columns_of_conditions() {
+    let open = |count: usize| "ifNotGlyph z\n".repeat(count);
+    columns(&[
+        // Eight times 13, 14, 15 and 16 bytes.
+        ("ifNotGlyph a ".repeat(8) + "ifCell", [10, 1, 105]),
+        ("ifNotGlyph a ".repeat(9) + "char a 1", [10, 1, 105]),
+        ("ifNotGlyph a ".repeat(12), [10, 1, 105]),
+        ("ifNotGlyph é ".repeat(8) + "ifGlyph", [10, 1, 113]),
+        ("ifNotGlyph € ".repeat(8) + "\tifCell 9 x", [10, 1, 122]),
+        (" ".to_string() + &"ifNotGlyph 𝄞 ".repeat(9), [10, 1, 130]),
+        // With open blocks.
+        (open(8) + "ifNotGlyph z", [10, 9, 1]),
+        (open(8) + "  ifCell 9", [10, 9, 3]),
+        (open(7) + "ifCell 1 ifCell 9 x", [10, 8, 10]),
+        (open(5) + &"ifGlyph é ".repeat(4), [10, 6, 34]),
+        (open(1) + "else\n" + &"ifGlyph z ".repeat(8), [10, 3, 71]),
+        ("ifNotGlyph z ".repeat(8) + "\n" + &"ifNotGlyph z ".repeat(8), [10, 2, 92]),
+    ]);
+}
+
+#[test]
+fn columns_of_effects() {
+    columns(&[
+        ("char a 1\nglyph a 1", [11, 2, 1]),
+        ("char a 1\n  glyph a 1", [11, 2, 3]),
+        // The word behind the conditions.
+        ("char a 1\nifCell 1 glyph a 1", [11, 2, 10]),
+        ("char a 1\nifCell 1 char a 1  \r\n", [11, 2, 10]),
+        ("char a 1\r\n ifCell 1\tchar a 1 # x\r\n", [11, 2, 11]),
+        ("char é 1\nifGlyph é alias é é", [11, 2, 12]),
+        ("char € 1\n\tifGlyph € ifNotGlyph 𝄞 glyph € 1", [11, 2, 30]),
+        ("char 𝄞 1\nifGlyph 𝄞 glyph 𝄞 (1 2)", [11, 2, 14]),
+        ("char \\xE9 1\nifGlyph a\nelse\n \tifCell 1 byte é 1\nendIf", [11, 4, 12]),
+        ("alias a a", [12, 1, 1]),
+        ("ifNotGlyph a alias a a", [12, 1, 14]),
+        ("ifNotGlyph é alias é é", [12, 1, 15]),
+        ("ifNotGlyph € alias € €", [12, 1, 16]),
+        ("ifNotGlyph 𝄞 alias 𝄞 𝄞", [12, 1, 17]),
+        ("alias a b\n\talias b a", [12, 2, 2]),
+        ("ifNotGlyph b\n ifNotCell 1  alias a a \nendIf", [12, 2, 15]),
+    ]);
+    let full: String = (0..1024).map(|k| format!("glyph \\u{:04X} 1\n", 0x4000 + k)).collect();
+    columns(&[
+        (format!("{full}char a 1"), [13, 1025, 1]),
+        (format!("{full} \talias a b\r\n"), [13, 1025, 3]),
+        (format!("{full}ifNotCell 1 char a 1"), [13, 1025, 13]),
+        (format!("{full}ifNotGlyph é ifNotGlyph € ifNotGlyph 𝄞 byte a 1"), [13, 1025, 46]),
+        (format!("{full}ifCell 1\nelse\n\tchar a 1\nendIf"), [13, 1027, 2]),
+        // The line is read to its end before.
+        (format!("{full}ifNotCell 1 char a 1 x"), [9, 1025, 22]),
+        (format!("{full}ifNotCell 1 char \\u4000 1"), [11, 1025, 13]),
+        (format!("{full}ifNotCell 1 alias a a"), [12, 1025, 13]),
+    ]);
+}
+
+#[test]
+fn no_columns() {
+    columns(&[
+        ("ifGlyph a", [18, 1, 0]),
+        ("\n  ifGlyph é \r\n# x\n", [18, 2, 0]),
+        ("ifGlyph a\n ifCell 1 ifGlyph 𝄞\nelse\n", [18, 2, 0]),
+    ]);
+    columns(&[("\n".repeat(65_537), [1, 0, 0]), (format!("x{}", "\n".repeat(65_536)), [1, 0, 0])]);
+    for side in SIDES {
+        let short = Err(Refusal { number: 2, place: 0, column: 0 });
+        assert_eq!((side.compile)(b"char a 9", &mut [0; WORDS - 1]), short, "{}", side.name);
+        assert_eq!((side.attribute_cells)(b"dot 9", &mut [0; 255]), short, "{}", side.name);
+    }
+}
+
 #[test]
 fn rules() {
     // Rule 5 takes only an explicit cell of the base.
@@ -1058,6 +1362,64 @@ fn attributes() {
             let answer = (side.attribute_cell)(text, 0).map_err(pair);
             assert_eq!(answer, Err((number, line)), "{}: {:?}", side.name, String::from_utf8_lossy(text));
             assert_eq!(reference::attributes(text).1, [Place::Unnamed; 8]);
+        }
+    }
+}
+
+#[test]
+fn columns_of_attributes() {
+    let faults: [(&[u8], [u32; 3]); 44] = [
+        (&[b'\n'; 65_537], [1, 0, 0]),
+        (&[b' '; 1025], [3, 1, 1025]),
+        (&[b'\xFF'; 1026], [3, 1, 1025]),
+        (b"\n#\xFF", [4, 2, 2]),
+        (b"dot \xE2\x82 =blink", [4, 1, 5]),
+        (b"dot 1 =blink # \xC3\xA9\xFF", [4, 1, 18]),
+        (b"dot 1 =blink # \xE2\x82\xAC\xF0\x9D\x84\x9E\xBF", [4, 1, 23]),
+        (b"Dot 1 =blink", [5, 1, 1]),
+        (b" \tchar a 1", [5, 1, 3]),
+        (b"\xEF\xBB\xBFdot 1 =blink", [5, 1, 1]),
+        (b"dot 1 =blink\r\n  endIf\r\n", [5, 2, 3]),
+        (b"ifCell 1 dot 1 =blink", [5, 1, 1]),
+        (b"dot", [6, 1, 4]),
+        (b"dot ", [6, 1, 5]),
+        (b"dot 1", [6, 1, 6]),
+        (b"dot 1\r", [6, 1, 6]),
+        (b"dot 1\r\n", [6, 1, 6]),
+        (b" dot 1 ", [6, 1, 8]),
+        (b"dot 8 \t\r\n", [6, 1, 8]),
+        (b"dot 12 =blink", [8, 1, 5]),
+        (b"dot  \xC3\xA9 =blink", [8, 1, 6]),
+        (b"dot (1) =blink", [8, 1, 5]),
+        (b"dot ( 1", [8, 1, 5]),
+        (b"dot 1=blink", [8, 1, 5]),
+        (b"dot #", [8, 1, 5]),
+        (b"dot 1\r\r\n", [8, 1, 5]),
+        (b"dot \r\r\n", [8, 1, 5]),
+        (b"\tdot\t0 x", [8, 1, 6]),
+        (b"dot 1 on", [16, 1, 7]),
+        (b"dot 1 = fg-red", [16, 1, 7]),
+        (b"dot 1 \t=FG-RED", [16, 1, 8]),
+        (b"dot 1 # x", [16, 1, 7]),
+        (b"dot 1 \xC3\xA9 x", [16, 1, 7]),
+        (b"dot 1 =blink\r\r\n", [16, 1, 7]),
+        (b"dot 1 \r\r\n", [16, 1, 7]),
+        (b"#\n dot 2  ~blink# x", [16, 2, 9]),
+        (b"dot 1 =blink x", [9, 1, 14]),
+        (b"dot 1 =blink  \t\xC3\xA9 # x", [9, 1, 16]),
+        (b"dot 1 =blink \r\r\n", [9, 1, 14]),
+        (b"\tdot 2 ~fg-bright\t\t(1)", [9, 1, 20]),
+        (b"#\ndot 1 =blink\ndot 1 =blink", [11, 3, 1]),
+        (b"dot 1 =blink\n \tdot 1 ~fg-red # x\r\n", [11, 2, 3]),
+        (b"dot 1 =blink\r\n    dot 1 =blink", [11, 2, 5]),
+        (b"dot 1 =blink\ndot 1 =blink x", [9, 2, 14]),
+    ];
+    for (text, [number, place, column]) in faults {
+        let refusal = Refusal { number, place, column };
+        for side in SIDES {
+            let input = || format!("{}: {:?}", side.name, String::from_utf8_lossy(text));
+            assert_eq!((side.attribute_cell)(text, 0), Err(refusal), "{}", input());
+            assert_eq!((side.attribute_cells)(text, &mut [0; 256]), Err(refusal), "{}", input());
         }
     }
 }
