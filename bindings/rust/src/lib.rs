@@ -65,8 +65,8 @@ pub struct Window {
     pub width: usize,
 }
 
-/// The value of a code, which is at most `most`, or its refusal, which is number * 2^48 + column * 2^32 + place. A greater
-/// value, which no call gives, is number 0.
+/// The value of a code, which is at most `most`, or its refusal: number * 2^48 + column * 2^32 + place. All that is no
+/// refusal is below 2^48; there a value over `most`, which no call gives, is number 0.
 fn value(code: u64, most: u32) -> Result<u32, Refusal> {
     match u32::try_from(code) {
         Ok(value) if value <= most => Ok(value),

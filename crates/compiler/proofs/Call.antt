@@ -56,24 +56,24 @@ module _ (text zeroed ws : List ℕ) (s : State) (at : ℕ) (here : Come text ze
       record { answer = t .answer ∙ rw gives; column = t .column ∙ rw gives; words = t .words ∙ rw (gives, here .beyond) }
 
   -- the next line ends at e, and leaves r and new
-  module _ (e : ℕ) (r : Stepped) (new : List ℕ) (some : at < length text) (ends : LineEnd text at e) (leave : Leaves ws s (withoutCR (take (e - at) (drop at text))) r new) where
+  module _ (e : ℕ) (r : Stepped) (new : List ℕ) (some : at < length text) (ends : LineEnd text at e) (left : Leaves ws s (withoutCR (take (e - at) (drop at text))) r new) where
     pub come-on : r .stopped ≡ No → length new ≡ length ws → Come text zeroed new (r .state) (e + 1)
     come-on q same =
-        let counts = step-counts (standing ws s) (withoutCR (take (e - at) (drop at text))) (sym (rw q at (leave .does))) in
+        let counts = step-counts (standing ws s) (withoutCR (take (e - at) (drop at text))) (sym (rw q at (left .does))) in
         record {
-          reached = rw (← counts) at (line-read step text (runText step begun text) at (s .lines + 1) (standing ws s) (here .reached) e (r .stopped) (standing new (r .state)) some ends (leave .does) q);
-          ready = leave .ready;
-          beyond = leave .beyond ∙ here .beyond;
+          reached = rw (← counts) at (line-read step text (runText step begun text) at (s .lines + 1) (standing ws s) (here .reached) e (r .stopped) (standing new (r .state)) some ends (left .does) q);
+          ready = left .ready;
+          beyond = left .beyond ∙ here .beyond;
           same = same ∙ here .same;
         }
 
     -- the words are zeroed again
-    pub come-refused : {refusal : Refusal} {left column : ℕ} {last : List ℕ} → r .stopped ≡ By refusal left → column ≡ columnOf (withoutCR (take (e - at) (drop at text))) left
+    pub come-refused : {refusal : Refusal} {bytes column : ℕ} {last : List ℕ} → r .stopped ≡ By refusal bytes → column ≡ columnOf (withoutCR (take (e - at) (drop at text))) bytes
         → last ≡ replicate tableWords 0 ++ drop tableWords new → Settled (compiled text) zeroed (Refused refusal (s .lines + 1) column) last
     unfolding compiled
-    come-refused {refusal} {left} q c z =
-        let gives = line-refused step text (runText step begun text) at (s .lines + 1) (standing ws s) (here .reached) e (r .stopped) (standing new (r .state)) some ends (leave .does) refusal left q c in
-        record { answer = rw gives; column = rw gives; words = z ∙ rw (gives, leave .beyond, here .beyond) }
+    come-refused {refusal} {bytes} q c z =
+        let gives = line-refused step text (runText step begun text) at (s .lines + 1) (standing ws s) (here .reached) e (r .stopped) (standing new (r .state)) some ends (left .does) refusal bytes q c in
+        record { answer = rw gives; column = rw gives; words = z ∙ rw (gives, left .beyond, here .beyond) }
 
 -- ---- the end of the text
 

@@ -42,12 +42,12 @@ ifDirective (Fault refusal left) bad skipped read = bad refusal left
 ifDirective Skip bad skipped read = skipped
 ifDirective Directive bad skipped read = read
 
--- what a line does: it leaves a state, or is refused at the byte from which on so many are left
+-- what a line does: it leaves a state, or is refused at a place so many bytes before its end
 pub data Step (S : Type 0) : Type 0 where
   next : S → Step S
   stop : Refusal → ℕ → Step S
 
--- that byte's column: bytes count from 1, and the line's end is not counted
+-- the column of such a place: bytes count from 1, and the line is given without its end
 abbrev pub columnOf : List ℕ → ℕ → ℕ
 columnOf line left = length line - left + 1
 

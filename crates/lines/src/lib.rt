@@ -39,8 +39,7 @@ pub enum Compiled {
     },
 }
 
-// Whether a line was refused, and how many bytes there are from the fault to its end; the state that it leaves stands
-// beside.
+// Whether a line was refused, and how many bytes before its end; the state that it leaves stands beside.
 pub enum Stopped {
     No,
     By(Refusal, usize),
@@ -75,7 +74,7 @@ pub fn trimmed(line: &[u8]) -> usize
     n
 }
 
-// The column of the byte from which on `left` bytes are left of a line, its one CR not counted.
+// The column of a place `left` bytes before the end of a line, whose one CR is not counted.
 pub fn column_of(line: &[u8], left: usize) -> usize
     ensures { λ r. ⌜ r ≡ columnOf (withoutCR (now (line .entry))) left ⌝ }
 {
