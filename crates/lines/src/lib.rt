@@ -1,4 +1,4 @@
-// The lines of a text, the words of a line, and what every compile call answers.
+// The lines of a text, the words of a line, the column of a fault, and what every compile call answers.
 use basics::Refusal;
 use unicode::Validity;
 ghost use mathlib.Core.Path.{_≡_};
