@@ -10,7 +10,7 @@ use lib.ListN.{length, drop, getD, drop-of-length-le}
 use lib.Seq.{drop-cons}
 use Rattle.basics.specs.Choice.{pick}
 use Rattle.basics.proofs.Tests.{by-test}
-use Rattle.attributes.specs.Cells.{isOn, isRaised, unnamedRaised, cellFrom, place}
+use Rattle.attributes.specs.Cells.{isOn, isRaised, cellFrom, place}
 use Rattle.attributes.specs.declared.Attribute.{Attribute}
 use Rattle.attributes.specs.declared.State.{State}
 use Rattle.attributes.specs.declared.State.the-variants.{Unnamed, On, Off}
@@ -33,24 +33,24 @@ shifted i h =
     mod-eq-of-lt fits ∙ omega arith
 
 -- cell is the sum of the weights of the dots below i, x that of all
-pub record Summed (x : ℕ) (places : List Place) (byte cell i : ℕ) : Type 0 where
+pub record Summed (x : ℕ) (unnamed : Bool) (places : List Place) (byte cell i : ℕ) : Type 0 where
   pub within : i ≤ 8
   pub small : cell < 2 ^ i
-  pub left : x ≡ cell + cellFrom (drop i places) byte i
+  pub left : x ≡ cell + cellFrom unnamed (drop i places) byte i
 
-module _ (x : ℕ) (places : List Place) (byte cell i : ℕ) (size : length places ≡ 8) (here : Summed x places byte cell i) where
+module _ (x : ℕ) (unnamed : Bool) (places : List Place) (byte cell i : ℕ) (size : length places ≡ 8) (here : Summed x unnamed places byte cell i) where
   pub weight-fits : (w : ℕ) → i < 8 → w ≡ 2 ^ i → cell + w < 65536
   weight-fits w h e = omega (arith, weight-small i h)
 
-  pub sum-on : (new : ℕ) → i < 8 → new ≡ pick (isRaised unnamedRaised (getD places i (place Unnamed) .state) byte) (cell + 2 ^ i) cell → Summed x places byte new (i + 1)
+  pub sum-on : (new : ℕ) → i < 8 → new ≡ pick (isRaised unnamed (getD places i (place Unnamed) .state) byte) (cell + 2 ^ i) cell → Summed x unnamed places byte new (i + 1)
   unfolding cellFrom
   sum-on new h e =
-      let raised : Bool = isRaised unnamedRaised (getD places i (place Unnamed) .state) byte in
+      let raised : Bool = isRaised unnamed (getD places i (place Unnamed) .state) byte in
       let k : i < length places = omega arith in
-      let more : x ≡ cell + (pick raised (2 ^ i) 0 + cellFrom (drop (i + 1) places) byte (i + 1)) = here .left ∙ rw (drop-cons places i (place Unnamed), add-one i) in
+      let more : x ≡ cell + (pick raised (2 ^ i) 0 + cellFrom unnamed (drop (i + 1) places) byte (i + 1)) = here .left ∙ rw (drop-cons places i (place Unnamed), add-one i) in
       let double : 2 ^ (i + 1) ≡ 2 ^ i + 2 ^ i = rw (add-one i, two-pow-succ i) (omega arith) in
       rw e
-      (by-test (λ (n : ℕ). Summed x places byte n (i + 1)) raised
+      (by-test (λ (n : ℕ). Summed x unnamed places byte n (i + 1)) raised
       (λ q. record { within = omega arith; small = omega arith; left = omega (arith, rw q at more) })
       (λ q. record { within = omega arith; small = omega arith; left = omega (arith, rw q at more) }))
 

@@ -37,9 +37,12 @@ pub step-read : (f : DotStates) (line : List ℕ) (n : ℕ) (read : DotLine) (x 
 unfolding dotStep
 step-read f line n read x c e h = rw (← c, ← e) h
 
-pub come-first : (text : List ℕ) → length text ≤ textLimit → Reached dotStep text (compiledAttributes text) 0 1 (dotStates allUnnamed 0)
+pub come-first : (text : List ℕ) (f : DotStates) → length text ≤ textLimit → f ≡ dotStates allUnnamed 0 → Reached dotStep text (compiledAttributes text) 0 1 f
 unfolding compiledAttributes runText
-come-first text short = record { within = omega arith; count = omega arith; left = rw (le-ltb _ _ short) }
+come-first text f short e = record { within = omega arith; count = omega arith; left = rw (e, le-ltb _ _ short) }
+
+pub no-lines : (f : DotStates) → f ≡ dotStates allUnnamed 0 → f .lines ≤ 0
+no-lines f e = rw e (omega arith)
 
 -- what the call is to ensure: its answer, the column, and the places
 abbrev Ensured : List ℕ → Compiled → List Place → Type 0

@@ -15,7 +15,7 @@ use Rattle.basics.specs.Choice.{pick}
 use Rattle.basics.specs.declared.Refusal.the-variants.{UnknownDirective, MissingOperand, BadDots, TrailingText}
 use Rattle.lines.specs.Words.{wordAt, bytesOf, isMissing, sameBytes, isOver}
 use Rattle.lines.specs.declared.Word.{Word}
-use Rattle.attributes.specs.Reader.{backgroundState, namedState, stateOf, isDotNumber, ifThere, stateLine, stateAt, dotAt, dotLine}
+use Rattle.attributes.specs.Reader.{backgroundState, namedState, stateOf, stateIn, isDotNumber, ifThere, stateLine, stateAt, dotAt, dotLine}
 use Rattle.attributes.specs.Internal.{DotWithin}
 use Rattle.attributes.specs.declared.StateOperand.{StateOperand}
 use Rattle.attributes.specs.declared.StateOperand.the-variants.{Bad, Read}
@@ -41,17 +41,17 @@ is-digit w q =
     (leb-true 49 b (range .0), leb-true b 56 (range .1))
 
 -- w is the next word, as a call answered it
-module _ (line : List ℕ) (at left : ℕ) (w : Word) (r : DotLine) (e : w ≡ wordAt line at) where
-  pub state-word : (dot : ℕ) → r ≡ ifThere w (stateLine line dot w (stateOf (bytesOf line w)) left) → r ≡ stateAt line dot at left
+module _ (fixed : Bool) (line : List ℕ) (at left : ℕ) (w : Word) (r : DotLine) (e : w ≡ wordAt line at) where
+  pub state-word : (dot : ℕ) → r ≡ ifThere w (stateLine line dot w (stateIn fixed (bytesOf line w)) left) → r ≡ stateAt fixed line dot at left
   unfolding stateAt
   state-word dot h = rw (← e) h
 
-  pub number-word : r ≡ ifThere w (pick (isDotNumber (bytesOf line w)) (stateAt line (getD line (w .start) 0 - 49) (w .end) left) (Fault BadDots (length line - w .start))) → r ≡ dotAt line at left
+  pub number-word : r ≡ ifThere w (pick (isDotNumber (bytesOf line w)) (stateAt fixed line (getD line (w .start) 0 - 49) (w .end) left) (Fault BadDots (length line - w .start))) → r ≡ dotAt fixed line at left
   unfolding dotAt
   number-word h = rw (← e) h
 
 pub first-word : (line : List ℕ) (w : Word) (r : DotLine) → w ≡ wordAt line 0
-    → r ≡ pick (sameBytes (bytesOf line w) (ascii "dot")) (dotAt line (w .end) (length line - w .start)) (Fault UnknownDirective (length line - w .start)) → r ≡ dotLine line
+    → r ≡ pick (sameBytes (bytesOf line w) (ascii "dot")) (dotAt false line (w .end) (length line - w .start)) (Fault UnknownDirective (length line - w .start)) → r ≡ dotLine line
 unfolding dotLine
 first-word line w r e h = rw (← e) h
 
@@ -73,14 +73,14 @@ pub on-state : (line : List ℕ) (dot left : ℕ) (w : Word) (r : DotLine) {s s�
 on-state line dot left w r e q h = rw (← e, q) h
 
 -- a dot that is read is the one that was given
-module _ (line : List ℕ) (dot left : ℕ) (h : dot < 8) where
+module _ (fixed : Bool) (line : List ℕ) (dot left : ℕ) (h : dot < 8) where
   line-below : (w : Word) (s : StateOperand) → DotWithin (stateLine line dot w s left)
   line-below w Bad = tt
   line-below w (Read state) = either DotWithin (isOver line (w .end)) h tt
 
-  dot-below : (at : ℕ) → DotWithin (stateAt line dot at left)
+  dot-below : (at : ℕ) → DotWithin (stateAt fixed line dot at left)
   unfolding stateAt
-  dot-below at = either DotWithin (isMissing (wordAt line at)) tt (line-below (wordAt line at) (stateOf (bytesOf line (wordAt line at))))
+  dot-below at = either DotWithin (isMissing (wordAt line at)) tt (line-below (wordAt line at) (stateIn fixed (bytesOf line (wordAt line at))))
 
 -- the digit that a dot's line gives, r what the call behind it answered
 module _ (line : List ℕ) (w : Word) (n : Bool) (there : w .start ≡ w .end → ⊥) (order : w .start ≤ w .end) (f : n ≡ isDotNumber (bytesOf line w)) (q : not n ≡ false) where
@@ -96,5 +96,5 @@ module _ (line : List ℕ) (w : Word) (n : Bool) (there : w .start ≡ w .end �
   pub digit-fits : getD line (w .start) 0 - 49 < 0x10000000000000000
   digit-fits = omega (arith, digit)
 
-  pub digit-within : (r : DotLine) (at left : ℕ) → r ≡ stateAt line (getD line (w .start) 0 - 49) at left → DotWithin r
-  digit-within r at left e = rw e (dot-below line _ left (omega (arith, digit)) at)
+  pub digit-within : (fixed : Bool) (r : DotLine) (at left : ℕ) → r ≡ stateAt fixed line (getD line (w .start) 0 - 49) at left → DotWithin r
+  digit-within fixed r at left e = rw e (dot-below fixed line _ left (omega (arith, digit)) at)

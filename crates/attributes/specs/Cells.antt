@@ -1,6 +1,6 @@
 -- The cell of a VGA attribute byte.
 use Prim.Native.Nat.{ℕ, _+_, _/_, _%_, _^_}
-use mathlib.Core.Bool.{Bool, false, not}
+use mathlib.Core.Bool.{Bool, true, false, not}
 use mathlib.Core.List.{List, [], _∷_}
 use lib.ListN.{replicate}
 use lib.Dec.{eqb}
@@ -8,7 +8,7 @@ use Rattle.basics.specs.Choice.{pick}
 use Rattle.attributes.specs.declared.Attribute.{Attribute}
 use Rattle.attributes.specs.declared.Attribute.the-variants as A
 use Rattle.attributes.specs.declared.State.{State}
-use Rattle.attributes.specs.declared.State.the-variants.{Unnamed, On, Off}
+use Rattle.attributes.specs.declared.State.the-variants.{Unnamed, On, Off, Always, Never}
 use Rattle.attributes.specs.declared.Place.{Place}
 
 -- the bit of each name
@@ -25,24 +25,26 @@ bitOf A.Blink = 0x80
 abbrev pub isOn : Attribute → ℕ → Bool
 isOn name byte = eqb (byte / bitOf name % 2) 1
 
--- whether a dot is raised: `=` by its bit on, `~` by its bit off; one without a line as the default says
+-- whether a dot is raised: `=` by its bit on, `~` by its bit off, `on` always, `off` never; one without a line as the default says
 abbrev pub isRaised : Bool → State → ℕ → Bool
 isRaised unnamed Unnamed byte = unnamed
 isRaised unnamed (On name) byte = isOn name byte
 isRaised unnamed (Off name) byte = not (isOn name byte)
-
--- an unnamed dot stays down
-abbrev pub unnamedRaised : Bool
-unnamedRaised = false
+isRaised unnamed Always byte = true
+isRaised unnamed Never byte = false
 
 -- the dots of some places, the first of them that of dot i + 1, which adds 2^i
-unfoldable pub cellFrom : List Place → ℕ → ℕ → ℕ
-cellFrom [] byte i = 0
-cellFrom (p ∷ ps) byte i = pick (isRaised unnamedRaised (p .state) byte) (2 ^ i) 0 + cellFrom ps byte (i + 1)
+unfoldable pub cellFrom : Bool → List Place → ℕ → ℕ → ℕ
+cellFrom unnamed [] byte i = 0
+cellFrom unnamed (p ∷ ps) byte i = pick (isRaised unnamed (p .state) byte) (2 ^ i) 0 + cellFrom unnamed ps byte (i + 1)
 
 -- the cell of a byte by the eight places of a table
+abbrev pub cellBy : Bool → List Place → ℕ → ℕ
+cellBy unnamed places byte = cellFrom unnamed places byte 0
+
+-- in an attributes table a dot without a line stays down
 abbrev pub attributeCell : List Place → ℕ → ℕ
-attributeCell places byte = cellFrom places byte 0
+attributeCell places byte = cellBy false places byte
 
 abbrev pub place : State → Place
 place state = record { state = state }

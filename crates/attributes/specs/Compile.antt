@@ -10,7 +10,7 @@ use Rattle.lines.specs.Texts.{openingOf, ifDirective, Step, next, stop, Outcome
 use Rattle.attributes.specs.Cells.{place, allUnnamed}
 use Rattle.attributes.specs.Reader.{dotLine}
 use Rattle.attributes.specs.declared.State.{State}
-use Rattle.attributes.specs.declared.State.the-variants.{Unnamed, On, Off}
+use Rattle.attributes.specs.declared.State.the-variants.{Unnamed, On, Off, Always, Never}
 use Rattle.attributes.specs.declared.Place.{Place}
 use Rattle.attributes.specs.declared.DotStates.{DotStates}
 use Rattle.attributes.specs.declared.DotLine.{DotLine}
@@ -24,6 +24,8 @@ abbrev pub isNamed : State → Bool
 isNamed Unnamed = false
 isNamed (On name) = true
 isNamed (Off name) = true
+isNamed Always = true
+isNamed Never = true
 
 -- a whole line, without its end: 3, 4, then the others
 unfoldable pub readDotLine : List ℕ → DotLine

@@ -1,6 +1,6 @@
 -- Reading a line of an attributes table: `dot`, a dot number, a state. Faults 5, 6, 8, 9 and 16 as met from left to right.
 use Prim.Native.Nat.{ℕ, _-_}
-use mathlib.Core.Bool.{Bool, _&&_}
+use mathlib.Core.Bool.{Bool, false, _&&_}
 use mathlib.Core.List.{List}
 use lib.ListN.{length, getD, drop}
 use lib.Dec.{eqb, leb}
@@ -11,7 +11,7 @@ use Rattle.lines.specs.declared.Word.{Word}
 use Rattle.lines.specs.Words.{wordAt, bytesOf, isMissing, sameBytes, isOver}
 use Rattle.attributes.specs.declared.Attribute.{Attribute}
 use Rattle.attributes.specs.declared.Attribute.the-variants as A
-use Rattle.attributes.specs.declared.State.the-variants.{On, Off}
+use Rattle.attributes.specs.declared.State.the-variants.{On, Off, Always, Never}
 use Rattle.attributes.specs.declared.StateOperand.{StateOperand}
 use Rattle.attributes.specs.declared.StateOperand.the-variants.{Bad, Read}
 use Rattle.attributes.specs.declared.DotLine.{DotLine}
@@ -38,9 +38,17 @@ namedState sign name =
     (pick (sameBytes name (ascii "fg-bright")) (signed sign A.FgBright)
     (backgroundState sign name))))
 
--- a state operand is a whole word
+-- a state operand is a whole word: a sign and a name
 unfoldable pub stateOf : List ℕ → StateOperand
 stateOf w = namedState (getD w 0 0) (drop 1 w)
+
+-- or, in a table where they stand, `on` or `off`
+unfoldable pub fixedState : List ℕ → StateOperand
+fixedState w = pick (sameBytes w (ascii "on")) (Read Always) (pick (sameBytes w (ascii "off")) (Read Never) (stateOf w))
+
+-- the state operand of a table, `fixed` saying whether `on` and `off` stand in it
+unfoldable pub stateIn : Bool → List ℕ → StateOperand
+stateIn fixed w = pick fixed (fixedState w) (stateOf w)
 
 -- a dot number is one digit 1 to 8
 abbrev pub isDotNumber : List ℕ → Bool
@@ -56,21 +64,21 @@ stateLine line dot w (Read state) left =
     pick (isOver line (w .end)) (Dot dot state left) (Fault TrailingText (length line - wordAt line (w .end) .start))
 
 -- behind the dot number
-unfoldable pub stateAt : List ℕ → ℕ → ℕ → ℕ → DotLine
-stateAt line dot at left =
+unfoldable pub stateAt : Bool → List ℕ → ℕ → ℕ → ℕ → DotLine
+stateAt fixed line dot at left =
     let w : Word = wordAt line at in
-    ifThere w (stateLine line dot w (stateOf (bytesOf line w)) left)
+    ifThere w (stateLine line dot w (stateIn fixed (bytesOf line w)) left)
 
 -- behind the word `dot`
-unfoldable pub dotAt : List ℕ → ℕ → ℕ → DotLine
-dotAt line at left =
+unfoldable pub dotAt : Bool → List ℕ → ℕ → ℕ → DotLine
+dotAt fixed line at left =
     let w : Word = wordAt line at in
-    let state : DotLine = stateAt line (getD line (w .start) 0 - 49) (w .end) left in
+    let state : DotLine = stateAt fixed line (getD line (w .start) 0 - 49) (w .end) left in
     ifThere w (pick (isDotNumber (bytesOf line w)) state (Fault BadDots (length line - w .start)))
 
--- `dot` is the only directive word
+-- `dot` is the only directive word of an attributes table, and `on` and `off` do not stand there
 unfoldable pub dotLine : List ℕ → DotLine
 dotLine line =
     let w : Word = wordAt line 0 in
-    let dot : DotLine = dotAt line (w .end) (length line - w .start) in
+    let dot : DotLine = dotAt false line (w .end) (length line - w .start) in
     pick (sameBytes (bytesOf line w) (ascii "dot")) dot (Fault UnknownDirective (length line - w .start))

@@ -7,9 +7,9 @@ use lines::TEXT_LIMIT;
 ghost use mathlib.Core.Path.{_≡_};
 ghost use Prim.Native.Nat.{_+_, _≤_, _<_, _^_};
 ghost use lib.ListN.{length};
-ghost use Rattle.attributes.specs.Cells.{bitOf, isOn, isRaised, attributeCell, place, allUnnamed};
-ghost use Rattle.attributes.specs.Reader.{signed, backgroundState, namedState, stateOf, isDotNumber, stateAt, dotAt, dotLine};
-ghost use Rattle.attributes.specs.Compile.{isNamed, readDotLine, withDot, dotStep, compiledAttributes, attributesReply, outcomePlaces};
+ghost use Rattle.attributes.specs.Cells.{bitOf, isOn, isRaised, cellBy, attributeCell, place, allUnnamed};
+ghost use Rattle.attributes.specs.Reader.{signed, backgroundState, namedState, stateOf, fixedState, stateIn, isDotNumber, stateAt, dotAt, dotLine};
+ghost use Rattle.attributes.specs.Compile.{isNamed, readDotLine, dotStates, withDot, dotStep, compiledAttributes, attributesReply, outcomePlaces};
 ghost use Rattle.attributes.specs.Internal.{DotWithin};
 ghost use Rattle.lines.specs.Lines.{withoutCR};
 ghost use Rattle.lines.specs.Texts.{textLimit, outcomeColumn, compiledReply, compiledColumn};
@@ -27,11 +27,13 @@ pub enum Attribute {
     Blink,
 }
 
-// What raises a dot: nothing, an attribute that is on, or one that is off.
+// What a table says of a dot: nothing, raised by an attribute that is on or by one that is off, always or never raised.
 pub enum State {
     Unnamed,
     On(Attribute),
     Off(Attribute),
+    Always,
+    Never,
 }
 
 // The place of one dot in a compiled attributes table.
@@ -102,6 +104,8 @@ fn is_raised(unnamed: bool, state: State, byte: u8) -> bool
         State::Unnamed => unnamed,
         State::On(name) => is_on(name, byte),
         State::Off(name) => !is_on(name, byte),
+        State::Always => true,
+        State::Never => false,
     }
 }
 
@@ -113,21 +117,28 @@ fn weight(i: usize) -> u16
     1 << i
 }
 
-// The cell of an attribute byte.
-pub fn attribute_cell(places: [Place; 8], byte: u8) -> u8
-    ensures { λ r. ⌜ r ≡ attributeCell places byte ⌝ }
+// The cell of a byte by the states of the dots; `unnamed` says whether a dot without a line is raised.
+pub fn cell_by(unnamed: bool, places: [Place; 8], byte: u8) -> u8
+    ensures { λ r. ⌜ r ≡ cellBy unnamed places byte ⌝ }
 {
     let mut cell = 0u16;
     let mut i = 0;
     while i < 8 {
         let here = places[i];
         let state = here.state;
-        if is_raised(false, state, byte) {
+        if is_raised(unnamed, state, byte) {
             cell += weight(i);
         }
         i += 1;
     }
     (cell % 256) as u8
+}
+
+// The cell of an attribute byte.
+pub fn attribute_cell(places: [Place; 8], byte: u8) -> u8
+    ensures { λ r. ⌜ r ≡ attributeCell places byte ⌝ }
+{
+    cell_by(false, places, byte)
 }
 
 // The state that a sign says of a name.
@@ -181,7 +192,7 @@ fn named_state(sign: u8, name: &[u8]) -> StateOperand
     background_state(sign, name)
 }
 
-// A whole word as a state.
+// A whole word as a sign and a name.
 fn state_of(w: &[u8]) -> StateOperand
     ensures { λ r. ⌜ r ≡ stateOf (now (w .entry)) ⌝ }
 {
@@ -189,6 +200,29 @@ fn state_of(w: &[u8]) -> StateOperand
         return StateOperand::Bad;
     }
     named_state(w[0], &w[1..])
+}
+
+// The same, or `on` or `off`.
+fn fixed_state(w: &[u8]) -> StateOperand
+    ensures { λ r. ⌜ r ≡ fixedState (now (w .entry)) ⌝ }
+{
+    if lines::same_bytes(w, b"on") {
+        return StateOperand::Read(State::Always);
+    }
+    if lines::same_bytes(w, b"off") {
+        return StateOperand::Read(State::Never);
+    }
+    state_of(w)
+}
+
+// A whole word as a state; `fixed` says whether `on` and `off` are states.
+fn state_in(fixed: bool, w: &[u8]) -> StateOperand
+    ensures { λ r. ⌜ r ≡ stateIn fixed (now (w .entry)) ⌝ }
+{
+    if fixed {
+        return fixed_state(w);
+    }
+    state_of(w)
 }
 
 // Whether a word is one digit 1 to 8.
@@ -205,9 +239,9 @@ fn is_dot_number(w: &[u8]) -> bool
 }
 
 // A line from behind the dot number on.
-fn state_at(line: &[u8], dot: usize, at: usize, left: usize) -> DotLine
+fn state_at(fixed: bool, line: &[u8], dot: usize, at: usize, left: usize) -> DotLine
     requires { ⌜ at ≤ length (now line) ⌝ }
-    ensures { λ r. ⌜ r ≡ stateAt (now (line .entry)) dot at left ⌝ }
+    ensures { λ r. ⌜ r ≡ stateAt fixed (now (line .entry)) dot at left ⌝ }
 {
     let w = lines::next_word(line, at);
     let start = w.start;
@@ -215,7 +249,7 @@ fn state_at(line: &[u8], dot: usize, at: usize, left: usize) -> DotLine
     if start == end {
         return DotLine::Fault(Refusal::MissingOperand, 0);
     }
-    match state_of(&line[start..end]) {
+    match state_in(fixed, &line[start..end]) {
         StateOperand::Bad => DotLine::Fault(Refusal::BadState, line.len() - start),
         StateOperand::Read(state) => {
             if lines::is_over(line, end) {
@@ -227,10 +261,10 @@ fn state_at(line: &[u8], dot: usize, at: usize, left: usize) -> DotLine
     }
 }
 
-// A line from behind the word `dot` on.
-fn dot_at(line: &[u8], at: usize, left: usize) -> DotLine
+// A line from behind the word `dot` on, in a table where `on` and `off` are states (`fixed`) or are not.
+pub fn dot_at(fixed: bool, line: &[u8], at: usize, left: usize) -> DotLine
     requires { ⌜ at ≤ length (now line) ⌝ }
-    ensures { λ r. ⌜ r ≡ dotAt (now (line .entry)) at left ⌝ }
+    ensures { λ r. ⌜ r ≡ dotAt fixed (now (line .entry)) at left ⌝ }
     ensures { λ r. ⌜ DotWithin r ⌝ }
 {
     let w = lines::next_word(line, at);
@@ -242,7 +276,7 @@ fn dot_at(line: &[u8], at: usize, left: usize) -> DotLine
     if !is_dot_number(&line[start..end]) {
         return DotLine::Fault(Refusal::BadDots, line.len() - start);
     }
-    state_at(line, (line[start] - b'1') as usize, end, left)
+    state_at(fixed, line, (line[start] - b'1') as usize, end, left)
 }
 
 // A line that is no comment, from its first word on.
@@ -255,7 +289,7 @@ fn dot_line(line: &[u8]) -> DotLine
     let end = w.end;
     let left = line.len() - start;
     if lines::same_bytes(&line[start..end], b"dot") {
-        return dot_at(line, end, left);
+        return dot_at(false, line, end, left);
     }
     DotLine::Fault(Refusal::UnknownDirective, left)
 }
@@ -279,11 +313,25 @@ fn is_named(state: State) -> bool
         State::Unnamed => false,
         State::On(_) => true,
         State::Off(_) => true,
+        State::Always => true,
+        State::Never => true,
+    }
+}
+
+// Before the first line: no dot has one.
+pub fn no_states() -> DotStates
+    ensures { λ r. ⌜ r ≡ dotStates allUnnamed 0 ⌝ }
+{
+    DotStates {
+        places: [Place {
+            state: State::Unnamed,
+        }; 8],
+        lines: 0,
     }
 }
 
 // The state with a dot's line more, unless that dot has one.
-fn with_dot(f: DotStates, read: DotLine) -> Stepped
+pub fn with_dot(f: DotStates, read: DotLine) -> Stepped
     requires { ⌜ (DotWithin read) × (f .lines < textLimit) ⌝ }
     ensures { λ r. ⌜ leaves (r .stopped) (r .states) ≡ withDot f read ⌝ }
     ensures { λ r. ⌜ r .states .lines ≤ f .lines + 1 ⌝ }
@@ -352,13 +400,7 @@ fn read_lines(text: &[u8]) -> Attributes
     ensures column { λ r. ⌜ compiledColumn (r .answer) ≡ outcomeColumn (compiledAttributes (now (text .entry))) ⌝ }
     ensures places { λ r. ⌜ r .places ≡ outcomePlaces (compiledAttributes (now (text .entry))) ⌝ }
 {
-    let none = [Place {
-        state: State::Unnamed,
-    }; 8];
-    let mut states = DotStates {
-        places: none,
-        lines: 0,
-    };
+    let mut states = no_states();
     let mut line = 1;
     let mut at = 0;
     while at < text.len() {

@@ -23,6 +23,7 @@ pub enum Refusal {
     StrayBlockWord,
     UnclosedBlock,
     BeyondPage,
+    UnknownEdition,
 }
 
 // A character, where there is one: a base character, a stand-in, an alias target, what a cell types.
@@ -69,5 +70,6 @@ pub fn number_of(refusal: Refusal) -> u8
         Refusal::StrayBlockWord => 17,
         Refusal::UnclosedBlock => 18,
         Refusal::BeyondPage => 19,
+        Refusal::UnknownEdition => 20,
     }
 }

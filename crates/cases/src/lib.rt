@@ -9,11 +9,22 @@ use table::TABLE_WORDS;
 // Two words more than a table has.
 const WORDS: usize = TABLE_WORDS + 2;
 
+// The editions of text tables: byte tables, and the present one.
+const BYTES: u32 = 1;
+
+const PRESENT: u32 = 2;
+
+// What compiling in an edition answers, without the cells.
+fn compile(edition: u32, text: &[u8], words: &mut [u32]) -> Compiled {
+    let done = editions::compile(edition, text, words);
+    done.answer
+}
+
 // What compiling into a slice that lacks so many words answers.
-fn compiled(text: &[u8], lacking: u32) -> Compiled {
+fn compiled(edition: u32, text: &[u8], lacking: u32) -> Compiled {
     let mut words = [0u32; TABLE_WORDS];
     let n = lacking as usize % (TABLE_WORDS + 1);
-    compiler::compile(text, &mut words[n..])
+    compile(edition, text, &mut words[n..])
 }
 
 fn page_answer(words: &[u32], question: &[u8]) -> Text {
@@ -55,7 +66,7 @@ fn table_answer(call: usize, words: &[u32], question: &[u8]) -> Text {
 // A question to the table that the text compiles to.
 fn table_case(call: usize, text: &[u8], question: &[u8]) -> Text {
     let mut words = [0u32; TABLE_WORDS];
-    compiler::compile(text, &mut words);
+    compile(PRESENT, text, &mut words);
     table_answer(call, &words, question)
 }
 
@@ -70,14 +81,50 @@ fn lent_case(length: usize, call: usize, text: &[u8], question: &[u8]) -> Text {
 }
 
 fn left_answer(text: &[u8], words: &mut [u32]) -> Text {
-    let answer = compiler::compile(text, words);
-    replies::left_text(answer, words)
+    let answer = compile(PRESENT, text, words);
+    replies::left_text(replies::compile_text(answer), words)
 }
 
 fn left_case(text: &[u8], length: u32) -> Text {
     let mut words = [7u32; WORDS];
     let n = length as usize % (WORDS + 1);
     left_answer(text, &mut words[0..n])
+}
+
+// What compiling in an edition answers, what it leaves in words that all held 7, and whether it hands back cells.
+fn edition_answer(edition: u32, text: &[u8], words: &mut [u32]) -> Text {
+    let done = editions::compile(edition, text, words);
+    let answer = done.answer;
+    let cells = done.cells;
+    let front = replies::left_text(replies::column_text(answer), words);
+    replies::push_filled(front, &cells)
+}
+
+fn edition_case(edition: u32, text: &[u8], length: u32) -> Text {
+    let mut words = [7u32; WORDS];
+    let n = length as usize % (WORDS + 1);
+    edition_answer(edition, text, &mut words[0..n])
+}
+
+// The question has the edition, and how many words are lent.
+fn any_edition_case(text: &[u8], question: &[u8]) -> Text {
+    let mut numbers = [0u32; 2];
+    fields::put_numbers(&mut numbers, question);
+    edition_case(numbers[0], text, numbers[1])
+}
+
+// The cells of 16 bytes of a byte table, by their high digit.
+fn row_case(text: &[u8], high: u32) -> Text {
+    let mut words = [0u32; 1];
+    let done = editions::compile(BYTES, text, &mut words);
+    let cells = done.cells;
+    let all: &[u8] = &cells;
+    let first = 16 * (high as usize % 16);
+    let end = first + 16;
+    if all.len() < end {
+        return answers::empty();
+    }
+    answers::push_cells(answers::text_of(b"row"), &all[first..end])
 }
 
 fn compiled_attributes(text: &[u8]) -> Compiled {
@@ -113,7 +160,8 @@ fn refusal_of(number: u32) -> Refusal {
         16 => Refusal::BadState,
         17 => Refusal::StrayBlockWord,
         18 => Refusal::UnclosedBlock,
-        _ => Refusal::BeyondPage,
+        19 => Refusal::BeyondPage,
+        _ => Refusal::UnknownEdition,
     }
 }
 
@@ -132,7 +180,7 @@ fn answer_to(name: &[u8], text: &[u8], question: &[u8]) -> Text {
         name,
         b"show type page windows lent lent_type lent_page lent_windows \
         short short_type short_page short_windows beyond beyond_type beyond_page beyond_windows \
-        compile column left attributes attributes_column dots report",
+        compile column left attributes attributes_column dots bytes row edition report",
     );
     let call = kind % 4;
     match kind {
@@ -140,13 +188,16 @@ fn answer_to(name: &[u8], text: &[u8], question: &[u8]) -> Text {
         4 | 5 | 6 | 7 => lent_case(TABLE_WORDS, call, text, question),
         8 | 9 | 10 | 11 => lent_case(TABLE_WORDS - 1, call, text, question),
         12 | 13 | 14 | 15 => lent_case(WORDS, call, text, question),
-        16 => replies::compile_text(compiled(text, 0)),
-        17 => replies::column_text(compiled(text, n)),
+        16 => replies::compile_text(compiled(PRESENT, text, 0)),
+        17 => replies::column_text(compiled(PRESENT, text, n)),
         18 => left_case(text, n),
         19 => replies::compile_text(compiled_attributes(text)),
         20 => replies::column_text(compiled_attributes(text)),
         21 => dots_case(text, n),
-        22 => report_case(fields::number(text), n),
+        22 => replies::column_text(compiled(BYTES, text, 0)),
+        23 => row_case(text, n),
+        24 => any_edition_case(text, question),
+        25 => report_case(fields::number(text), n),
         _ => answers::text_of(b"unknown kind"),
     }
 }

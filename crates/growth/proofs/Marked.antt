@@ -3,7 +3,7 @@ use mathlib.Core.Path.{_≡_, refl}
 use mathlib.Core.Bool.{true}
 use Rattle.attributes.specs.Cells.{cellFrom}
 use Rattle.attributes.specs.Compile.{readDotLine, dotStep, compiledAttributes}
-use Rattle.attributes.specs.Reader.{backgroundState, namedState, stateOf, stateAt, dotAt, dotLine}
+use Rattle.attributes.specs.Reader.{backgroundState, namedState, stateOf, stateIn, stateAt, dotAt, dotLine}
 use Rattle.blocks.specs.Blocks.{aroundOf}
 use Rattle.compiler.specs.Compile.{lineEffect, step, compiled, compileReply, compileColumn, compileWords}
 use Rattle.reader.specs.Conditions.{hasGlyph, hasCell}
@@ -29,7 +29,7 @@ use Rattle.unicode.specs.Utf8.{afterFirst, afterFurther, utf8From}
 
 -- all tables, since they are computed by the same definitions
 computed : (everyOne marked ≡ true) × (everyOne workedBlocks ≡ true) × (everyOne workedColumns ≡ true)
-unfolding cellFrom readDotLine dotStep compiledAttributes backgroundState namedState stateOf stateAt dotAt dotLine aroundOf blockLine readFirst readLine lineEffect step compiled compileReply compileColumn compileWords hasGlyph hasCell conditionOf directiveOf finished dotsLine aliasLine conditionAt glyphCondition cellCondition frontOf ifHolds readFrom find explicit aliasOf walkWithin walk aliases typedIn verdictOf wordsFor comesOut everyOne linesOf withoutCR openingOf runLines runText isBlank firstFrom firstAt wordAt sameBytes isOver lookupReply firstNoScalar pagePlan candidates choose rulesFrom3 lookup digitOf withDigit digitsFrom plainOf shortOf radixOf wordNumber characterOf byteOf raiseBy raise raiseInside endsAt digitsAt insideAt cellAt dotsAt characterAt dotsOperandAt zeroFrom checkFrom checkOf lentTable wordsOf isSoundWord meaningOf definitions filledFrom localOf standsFor afterFirst afterFurther utf8From
+unfolding cellFrom readDotLine dotStep compiledAttributes backgroundState namedState stateOf stateIn stateAt dotAt dotLine aroundOf blockLine readFirst readLine lineEffect step compiled compileReply compileColumn compileWords hasGlyph hasCell conditionOf directiveOf finished dotsLine aliasLine conditionAt glyphCondition cellCondition frontOf ifHolds readFrom find explicit aliasOf walkWithin walk aliases typedIn verdictOf wordsFor comesOut everyOne linesOf withoutCR openingOf runLines runText isBlank firstFrom firstAt wordAt sameBytes isOver lookupReply firstNoScalar pagePlan candidates choose rulesFrom3 lookup digitOf withDigit digitsFrom plainOf shortOf radixOf wordNumber characterOf byteOf raiseBy raise raiseInside endsAt digitsAt insideAt cellAt dotsAt characterAt dotsOperandAt zeroFrom checkFrom checkOf lentTable wordsOf isSoundWord meaningOf definitions filledFrom localOf standsFor afterFirst afterFurther utf8From
 computed = (refl, refl, refl)
 
 pub marked-cases : everyOne marked ≡ true

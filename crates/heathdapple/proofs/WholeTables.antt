@@ -1,7 +1,7 @@
 -- What is written for all 256 cells or bytes: each element, the whole buffer, and the calls' answers.
 use Prim.Native.Nat.{ℕ, zero, suc, _+_, _^_, _≤_, _<_}
 use mathlib.Core.Path.{_≡_, refl, ap}
-use mathlib.Core.List.{List, [], _∷_, map}
+use mathlib.Core.List.{List, [], _∷_, map, map-id}
 use native.Mathlib.Omega.{arith}
 use lib.ListN.{length, getD, set, length-replicate, getD-replicate}
 use borrow.Author.Tests.{lt-ltb, le-ltb}
@@ -9,7 +9,7 @@ use Rattle.basics.specs.Refusals.{Reply, answered, refused, fillingReply}
 use Rattle.basics.specs.declared.Filling.{Filling}
 use Rattle.basics.specs.declared.Maybe.{Maybe}
 use Rattle.basics.proofs.Tests.{either}
-use Rattle.lines.specs.Texts.{outcomeColumn, compiledReply}
+use Rattle.lines.specs.Texts.{compiledReply}
 use Rattle.lines.specs.declared.Compiled.{Compiled}
 use Rattle.definitions.specs.declared.Definition.{Definition}
 use Rattle.definitions.specs.Definitions.{types, typedIn}
@@ -23,7 +23,8 @@ use Rattle.typing.proofs.TypedCells.{entry-types, entries-length}
 use Rattle.attributes.specs.declared.Place.{Place}
 use Rattle.attributes.specs.Cells.{attributeCell}
 use Rattle.attributes.specs.Compile.{compiledAttributes, attributesReply, outcomePlaces}
-use Rattle.heathdapple.specs.Codes.{refusalCode, codeOf, characterCode, cellCount, withRoom, after, entryCode, entriesAfter, cellsColumn, numbersFrom, cellsOf, cellsAfter}
+use Rattle.byte_tables.specs.Compile.{compiledBytes, outcomeCells}
+use Rattle.heathdapple.specs.Codes.{refusalCode, codeOf, characterCode, cellCount, withRoom, columnWithRoom, after, entryCode, entriesAfter, numbersFrom, cellsOf, cellsAfter, bytesAfter}
 use Rattle.heathdapple.specs.Internal.{EntriesFit}
 use Rattle.heathdapple.proofs.Codes.{code-of}
 
@@ -63,6 +64,14 @@ cells-more places old i e h room p =
     let here : getD (numbersFrom 0 cellCount) i 0 ≡ i = omega (arith, number-at 0 cellCount i h) in
     all-more (λ (byte : ℕ). attributeCell places byte) (numbersFrom 0 cellCount) (numbers-length 0 cellCount) old i e 0 h room (rw here p)
 
+-- an array that is copied
+module _ (l : List ℕ) (size : length l ≡ cellCount) (old : List ℕ) (i : ℕ) {new : List ℕ} (e : new ≡ filledTo (λ n. n) l i old) where
+  pub copied-more : i < cellCount → cellCount ≤ length old → set new i (getD l i 0) ≡ filledTo (λ n. n) l (i + 1) old
+  copied-more h room = all-more (λ n. n) l size old i e 0 h room refl
+
+  pub copied : i ≤ cellCount → cellCount ≤ i → new ≡ over l old
+  copied h k = rw (map-id l) at (all-over (λ n. n) l size old i e h k)
+
 -- ---- what a table types
 
 typed-small : (ds : List Definition) → AllInRange ds → (cell : ℕ) → characterCode (typedIn ds cell) < 2 ^ 32
@@ -90,8 +99,8 @@ entries-fit ws e = rw e (go (lentTable ws) refl)
 pub short-code : {B : Type 0} (code : B → ℕ) (x : Reply B) {k room r : ℕ} → room < cellCount → k ≡ 0 → r ≡ refusalCode 2 0 0 → r ≡ codeOf code k (withRoom room x)
 short-code code x {room = room} short c e = rw (lt-ltb room cellCount short, c) e
 
-pub short-column : (text : List ℕ) {room : ℕ} → room < cellCount → cellsColumn text room ≡ 0
-short-column text short = rw (lt-ltb _ _ short)
+pub short-column : (column : ℕ) {room : ℕ} → room < cellCount → columnWithRoom room column ≡ 0
+short-column column short = rw (lt-ltb _ _ short)
 
 pub short-left : {B : Type 0} (x : Reply B) (new old : List ℕ) → length old < cellCount → old ≡ after (withRoom (length old) x) new old
 short-left x new old short = rw (lt-ltb (length old) cellCount short)
@@ -101,8 +110,8 @@ pub long-code : {A B : Type 0} (reply : A → Reply B) (column : A → ℕ) (cod
     → r ≡ codeOf code (column w) (reply w) → r ≡ codeOf code k (withRoom room x)
 long-code reply column code {room = room} long p c q e = rw (le-ltb room cellCount long) (code-of reply column code p c q e)
 
-pub long-column : (text : List ℕ) {room k : ℕ} → cellCount ≤ room → k ≡ outcomeColumn (compiledAttributes text) → k ≡ cellsColumn text room
-long-column text long c = rw (le-ltb _ _ long) c
+pub long-column : {column room k : ℕ} → cellCount ≤ room → k ≡ column → k ≡ columnWithRoom room column
+long-column long c = rw (le-ltb _ _ long) c
 
 long-left : {A B : Type 0} (reply : A → Reply B) {v w : A} {x : Reply B} (new old : List ℕ) {left : List ℕ} → cellCount ≤ length old → reply v ≡ x → v ≡ w
     → left ≡ after (reply w) new old → left ≡ after (withRoom (length old) x) new old
@@ -115,3 +124,10 @@ entries-left ws old long p from q e = long-left fillingReply (map entryCode (typ
 pub cells-left : (text : List ℕ) {v w : Compiled} {places : List Place} (old : List ℕ) {left : List ℕ} → cellCount ≤ length old → compiledReply v ≡ attributesReply (compiledAttributes text)
     → places ≡ outcomePlaces (compiledAttributes text) → v ≡ w → left ≡ after (compiledReply w) (cellsOf places) old → left ≡ cellsAfter text old
 cells-left text old long p from q e = long-left compiledReply (cellsOf (outcomePlaces (compiledAttributes text))) old long p q (rw from at e)
+
+-- the cells of a byte table are written also where its text is refused
+pub bytes-short : (text old : List ℕ) → length old < cellCount → old ≡ bytesAfter text old
+bytes-short text old short = rw (lt-ltb (length old) cellCount short)
+
+pub bytes-left : (text : List ℕ) {all : List ℕ} (old : List ℕ) {left : List ℕ} → cellCount ≤ length old → all ≡ outcomeCells (compiledBytes text) → left ≡ over all old → left ≡ bytesAfter text old
+bytes-left text old long from e = rw (le-ltb (length old) cellCount long, ← from) e

@@ -14,6 +14,8 @@ use Rattle.typing.specs.Typing.{typingReply, typingEntries, typedBy}
 use Rattle.attributes.specs.declared.Place.{Place}
 use Rattle.attributes.specs.Cells.{attributeCell}
 use Rattle.attributes.specs.Compile.{compiledAttributes, attributesReply, outcomePlaces}
+use Rattle.byte_tables.specs.Compile.{compiledBytes, outcomeCells}
+use Rattle.byte_tables.specs.Compile as Bytes
 
 -- a refusal: its number × 2^48 + its column × 2^32 + its place; a column beyond 2^16 − 1 is given as that, a place beyond
 -- 2^32 − 1 as that
@@ -25,7 +27,7 @@ abbrev pub codeOf : {A : Type 0} → (A → ℕ) → ℕ → Reply A → ℕ
 codeOf code column (answered a) = code a
 codeOf code column (refused number place) = refusalCode number column place
 
--- compiling: the count of definitions, of `dot` lines
+-- compiling: the count of definitions, of `dot` lines, of byte lines
 abbrev pub compileCode : ℕ → Reply ℕ → ℕ
 compileCode column reply = codeOf (λ count. count) column reply
 
@@ -62,6 +64,10 @@ cellCount = 256
 abbrev pub withRoom : {A : Type 0} → ℕ → Reply A → Reply A
 withRoom room reply = pick (ltb room cellCount) (refused 2 0) reply
 
+-- and has no column
+abbrev pub columnWithRoom : ℕ → ℕ → ℕ
+columnWithRoom room column = pick (ltb room cellCount) 0 column
+
 -- a buffer after the call: what is written stands at its front, and a refusal writes nothing
 abbrev pub after : {A : Type 0} → Reply A → List ℕ → List ℕ → List ℕ
 after (answered a) new old = over new old
@@ -81,9 +87,8 @@ entriesAfter ws old = after (entriesReply ws (length old)) (map entryCode (typin
 abbrev pub cellsReply : List ℕ → ℕ → Reply ℕ
 cellsReply text room = withRoom room (attributesReply (compiledAttributes text))
 
--- and the column of a refusal, which a short buffer does not have
 abbrev pub cellsColumn : List ℕ → ℕ → ℕ
-cellsColumn text room = pick (ltb room cellCount) 0 (outcomeColumn (compiledAttributes text))
+cellsColumn text room = columnWithRoom room (outcomeColumn (compiledAttributes text))
 
 -- so many numbers, one after another
 unfoldable pub numbersFrom : ℕ → ℕ → List ℕ
@@ -95,3 +100,13 @@ cellsOf places = map (λ (byte : ℕ). attributeCell places byte) (numbersFrom 0
 
 abbrev pub cellsAfter : List ℕ → List ℕ → List ℕ
 cellsAfter text old = after (cellsReply text (length old)) (cellsOf (outcomePlaces (compiledAttributes text))) old
+
+-- the cells of all bytes of a byte table: those of a refused text are written too
+abbrev pub bytesReply : List ℕ → ℕ → Reply ℕ
+bytesReply text room = withRoom room (Bytes.bytesReply (compiledBytes text))
+
+abbrev pub bytesColumn : List ℕ → ℕ → ℕ
+bytesColumn text room = columnWithRoom room (outcomeColumn (compiledBytes text))
+
+abbrev pub bytesAfter : List ℕ → List ℕ → List ℕ
+bytesAfter text old = pick (ltb (length old) cellCount) old (over (outcomeCells (compiledBytes text)) old)

@@ -14,10 +14,11 @@ ghost use Prim.Native.Nat.{_≤_, min};
 ghost use lib.ListN.{length};
 ghost use Rattle.basics.specs.Refusals.{numberOf, fillingReply};
 ghost use Rattle.definitions.specs.Effects.{definitionLimit};
-ghost use Rattle.compiler.specs.Compile.{compileReply, compileColumn, compileWords};
+ghost use Rattle.lines.specs.Texts.{compiledReply, compiledColumn};
+ghost use Rattle.editions.specs.Editions.{editionReply, editionColumn, editionWords};
 ghost use Rattle.lookup.specs.Calls.{lookupReply, pagePlan, over, Pages};
 ghost use Rattle.windows.specs.Windows.{PagesWindows};
-ghost use Rattle.heathdapple.specs.Codes.{refusalCode, compileCode, answerCode, lookupCode, fillingCode, characterCode, typedCode, attributeCode, cellCount, entriesReply, entryCode, entriesAfter, cellsReply, cellsColumn, cellsOf, cellsAfter};
+ghost use Rattle.heathdapple.specs.Codes.{refusalCode, compileCode, answerCode, lookupCode, fillingCode, characterCode, typedCode, attributeCode, cellCount, entriesReply, entryCode, entriesAfter, cellsReply, cellsColumn, cellsOf, cellsAfter, bytesReply, bytesColumn, bytesAfter};
 ghost use Rattle.heathdapple.specs.Internal.{EntriesFit};
 
 // A number, or the most that may be given for it.
@@ -41,13 +42,11 @@ fn refusal_code(refusal: Refusal, column: usize, place: usize) -> u64
     number * 0x1000000000000 + middle * 0x100000000 + low
 }
 
-// Compiles a text table into 2,048 words of `words`: the count of definitions, or the refusal with its line and column.
-#[no_mangle]
-pub extern "C" fn heathdapple_compile(text: &[u8], words: &mut [u32]) -> u64
-    ensures code { λ r. ⌜ r ≡ compileCode (compileColumn (now (text .entry)) (length (now (words .entry)))) (compileReply (now (text .entry)) (length (now (words .entry)))) ⌝ }
-    ensures words { λ r. ⌜ now (words .exit) ≡ compileWords (now (text .entry)) (now (words .entry)) ⌝ }
+// What a compile call answers, as one number.
+fn compile_code(answer: Compiled) -> u64
+    ensures { λ r. ⌜ r ≡ compileCode (compiledColumn answer) (compiledReply answer) ⌝ }
 {
-    match compiler::compile(text, words) {
+    match answer {
         Compiled::Accepted(count) => count as u64,
         Compiled::Refused {
             refusal,
@@ -55,6 +54,18 @@ pub extern "C" fn heathdapple_compile(text: &[u8], words: &mut [u32]) -> u64
             column,
         } => refusal_code(refusal, column, line),
     }
+}
+
+// Compiles a text table of edition 2 into 2,048 words of `words`, or reads a byte table, edition 1, and leaves them: the
+// count of definitions or of byte lines, or the refusal with its line and column.
+#[no_mangle]
+pub extern "C" fn heathdapple_compile(edition: u32, text: &[u8], words: &mut [u32]) -> u64
+    ensures code { λ r. ⌜ r ≡ compileCode (editionColumn edition (now (text .entry)) (length (now (words .entry)))) (editionReply edition (now (text .entry)) (length (now (words .entry)))) ⌝ }
+    ensures words { λ r. ⌜ now (words .exit) ≡ editionWords edition (now (text .entry)) (now (words .entry)) ⌝ }
+{
+    let done = editions::compile(edition, text, words);
+    let answer = done.answer;
+    compile_code(answer)
 }
 
 // What lookup shows, as one number.
@@ -235,4 +246,33 @@ pub extern "C" fn heathdapple_attribute_cells(text: &[u8], cells: &mut [u8]) -> 
             column,
         } => refusal_code(refusal, column, line),
     }
+}
+
+// Writes the 256 cells of a byte table.
+fn put_bytes(all: [u8; 256], cells: &mut [u8])
+    requires { ⌜ cellCount ≤ length (now cells) ⌝ }
+    ensures { λ r. ⌜ now (cells .exit) ≡ over all (now (cells .entry)) ⌝ }
+{
+    let mut i = 0;
+    while i < CELL_COUNT {
+        cells[i] = all[i];
+        i += 1;
+    }
+}
+
+// The cells of all bytes by a byte table's text, edition 1, at the front of `cells`, all 255 if it is refused: the count of
+// byte lines, or the refusal with its line and column.
+#[no_mangle]
+pub extern "C" fn heathdapple_byte_cells(text: &[u8], cells: &mut [u8]) -> u64
+    ensures code { λ r. ⌜ r ≡ compileCode (bytesColumn (now (text .entry)) (length (now (cells .entry)))) (bytesReply (now (text .entry)) (length (now (cells .entry)))) ⌝ }
+    ensures cells { λ r. ⌜ now (cells .exit) ≡ bytesAfter (now (text .entry)) (now (cells .entry)) ⌝ }
+{
+    if cells.len() < CELL_COUNT {
+        return refusal_code(Refusal::ShortSlice, 0, 0);
+    }
+    let table = byte_tables::compile_bytes(text);
+    let answer = table.answer;
+    let all = table.cells;
+    put_bytes(all, cells);
+    compile_code(answer)
 }

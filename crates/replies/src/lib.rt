@@ -152,12 +152,24 @@ fn push_change(text: Text, words: &[u32]) -> Text {
     answers::push_bytes(text, b" other")
 }
 
-// What compiling answers, and what it leaves in words that all held 7: those of a table, and those beyond.
-pub fn left_text(answer: Compiled, words: &[u32]) -> Text {
-    let front = answers::push_bytes(compile_text(answer), b" words");
+// What compiling answers, as a text, and what it leaves in words that all held 7: those of a table, and those beyond.
+pub fn left_text(answer: Text, words: &[u32]) -> Text {
+    let front = answers::push_bytes(answer, b" words");
     if words.len() < TABLE_WORDS {
         return answers::push_bytes(push_change(front, words), b" beyond same");
     }
     let middle = answers::push_bytes(push_change(front, &words[0..TABLE_WORDS]), b" beyond");
     push_change(middle, &words[TABLE_WORDS..])
+}
+
+// Whether cells are all 255.
+pub fn push_filled(text: Text, cells: &[u8]) -> Text {
+    let mut i = 0;
+    while i < cells.len() {
+        if cells[i] != 255 {
+            return answers::push_bytes(text, b" cells other");
+        }
+        i += 1;
+    }
+    answers::push_bytes(text, b" cells 255")
 }

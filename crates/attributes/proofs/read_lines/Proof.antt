@@ -1,5 +1,5 @@
 use borrow.Author.Needs.{needs}
-use Rattle.attributes.proofs.Compile.{come-first, refused-places, accepted-places}
+use Rattle.attributes.proofs.Compile.{come-first, no-lines, refused-places, accepted-places}
 use Rattle.lines.proofs.Texts.{Reached, line-read, line-refused}
 use Rattle.attributes.specs.Compile.{dotStep, compiledAttributes}
 use lib.ListN.{length}
@@ -20,7 +20,8 @@ read-lines-spec =
     (tie.spec
     Inv-loop
     μ-loop
-    (λ c. (search needs, search come-first))
+    (λ c κs. search needs)
+    (λ c. (search (no-lines, needs), search come-first))
     (λ c κs. search needs)
     (λ c. search needs)
     (λ c. search needs)

@@ -4,21 +4,11 @@ use borrow.Author.Needs.{needs}
 use Rattle.heathdapple.proofs.heathdapple_compile.Statement.{statement}
 use Rattle.heathdapple.proofs.heathdapple_compile.Tie as tie
 
-returns : tie.Need-returns
-returns c = search (code-of compiledReply compiledColumn (λ count. count))
-
-returns-2 : tie.Need-returns-2
-returns-2 c = search (code-of compiledReply compiledColumn (λ count. count))
-
 pub heathdapple-compile-spec : {M : Type 1} → statement M
 heathdapple-compile-spec =
     tie.close
     (tie.spec
     (λ c κs. search needs)
-    (λ c. search needs)
-    (λ c. search needs)
     (λ c κs. search needs)
     (λ c. search needs)
-    returns
-    (λ c. search needs)
-    returns-2)
+    (λ c. search (code-of compiledReply compiledColumn (λ count. count))))

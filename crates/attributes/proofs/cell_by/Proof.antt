@@ -5,23 +5,23 @@ use mathlib.Core.Logic.{⊎-elim}
 use native.Mathlib.Omega.{arith}
 use lib.ListN.{length}
 use Rattle.basics.proofs.Tests.{chosen}
-use Rattle.attributes.specs.Cells.{attributeCell}
+use Rattle.attributes.specs.Cells.{cellBy}
 use Rattle.attributes.proofs.Cells.{Summed, weight-fits, plus, sum-on, sum-over}
-use Rattle.attributes.proofs.attribute_cell.Statement.{statement}
-use Rattle.attributes.proofs.attribute_cell.Tie as tie
+use Rattle.attributes.proofs.cell_by.Statement.{statement}
+use Rattle.attributes.proofs.cell_by.Tie as tie
 
 -- the weights of the raised dots below i are summed
 abbrev Inv-loop : tie.InvT-loop
-Inv-loop byte places cell₀ i₀ cell i = (length places ≡ 8) × Summed (attributeCell places byte) places byte cell i
+Inv-loop unnamed byte places cell₀ i₀ cell i = (length places ≡ 8) × Summed (cellBy unnamed places byte) unnamed places byte cell i
 
 abbrev μ-loop : tie.MeasureT-loop
-μ-loop byte places cell₀ i₀ cell i = 8 - i
+μ-loop unnamed byte places cell₀ i₀ cell i = 8 - i
 
 loop-again : tie.Need-loop-again Inv-loop μ-loop
 loop-again c = (search needs, ⊎-elim (λ w. search (sum-on, chosen, plus)) (λ w. search (sum-on, chosen)) (c .if1 .came))
 
-pub attribute-cell-spec : {M : Type 1} → statement M
-attribute-cell-spec =
+pub cell-by-spec : {M : Type 1} → statement M
+cell-by-spec =
     tie.close
     (tie.spec
     Inv-loop

@@ -1,0 +1,120 @@
+-- One line more, and the lines of a text one after another.
+use Prim.Native.Nat.{ℕ, _+_, _-_, _≤_, _<_}
+use mathlib.Core.Path.{_≡_, refl}
+use mathlib.Core.List.{List}
+use native.Mathlib.Omega.{arith}
+use lib.ListN.{length, take, drop, getD, set, replicate}
+use lib.Seq.{set-getD}
+use borrow.Author.Tests.{lt-ltb, le-ltb}
+use Rattle.basics.specs.declared.Refusal.{Refusal}
+use Rattle.basics.specs.declared.Refusal.the-variants.{TextTooLong, LineTooLong}
+use Rattle.lines.specs.Texts.{textLimit, lineLimit, openingOf, Step, next, stop, columnOf, rejected, runText, outcomeColumn, compiledReply, compiledColumn}
+use Rattle.lines.specs.Lines.{withoutCR}
+use Rattle.lines.specs.Internal.{LineEnd, leaves}
+use Rattle.lines.specs.declared.Compiled.{Compiled}
+use Rattle.lines.specs.declared.Compiled.the-variants.{Accepted, Refused}
+use Rattle.lines.specs.declared.Stopped.{Stopped}
+use Rattle.lines.specs.declared.Stopped.the-variants.{No, By}
+use Rattle.lines.proofs.Texts.{Reached, lines-read, line-read, line-refused, run-column}
+use Rattle.definitions.specs.declared.Cell.{Cell}
+use Rattle.definitions.specs.declared.Cell.the-variants.{Absent, Dots}
+use Rattle.attributes.specs.Cells.{allUnnamed}
+use Rattle.attributes.specs.Compile.{dotStates, withDot}
+use Rattle.attributes.specs.Internal.{DotWithin}
+use Rattle.attributes.specs.declared.DotStates.{DotStates}
+use Rattle.attributes.specs.declared.DotLine.{DotLine}
+use Rattle.byte_tables.specs.Reader.{readTableLine}
+use Rattle.byte_tables.specs.Compile.{byteCount, slot, SoFar, soFar, begun, withDots, withByte, withLine, step, compiledBytes, bytesReply, cellsFrom, noCells, outcomeCells}
+use Rattle.byte_tables.specs.Internal.{LineWithin, byteIn, stepped, commonTaken, byteTaken, lineTaken}
+use Rattle.byte_tables.specs.declared.Slot.{Slot}
+use Rattle.byte_tables.specs.declared.TableLine.{TableLine}
+use Rattle.byte_tables.specs.declared.TableLine.the-variants.{Common, Byte}
+use Rattle.byte_tables.specs.declared.Stepped.{Stepped}
+
+-- ---- one line
+
+-- what a dot's line leaves, o and f as the call answered it
+module _ (dots : DotStates) (asked : Slot) (count : ℕ) (read : DotLine) (o : Stopped) (f : DotStates) (does : leaves o f ≡ withDot dots read) where
+  pub common-refused : (refusal : Refusal) (left : ℕ) → o ≡ By refusal left → stepped (By refusal left) dots asked count ≡ commonTaken dots asked count (withDot dots read)
+  common-refused refusal left q = rw (← does, q)
+
+  pub common-read : o ≡ No → stepped No f asked count ≡ commonTaken dots asked count (withDot dots read)
+  common-read q = rw (← does, q)
+
+-- the case k of what was read, and of the cell in the slot
+pub on-read : (dots : DotStates) (asked : Slot) (count : ℕ) {read k : TableLine} {r : Stepped} → read ≡ k → r ≡ lineTaken dots asked count k → r ≡ lineTaken dots asked count read
+on-read dots asked count q h = rw q h
+
+pub on-earlier : (dots : DotStates) (asked : Slot) (count cell left : ℕ) {earlier k : Cell} {r : Stepped} → earlier ≡ k → r ≡ byteTaken k dots asked count cell left
+    → r ≡ byteTaken earlier dots asked count cell left
+on-earlier dots asked count cell left q h = rw q h
+
+pub common-within : {read : TableLine} {k : DotLine} → LineWithin read → read ≡ Common k → DotWithin k
+common-within h q = rw q at h
+
+-- the parts that a line leaves are what it does
+common-done : (slots : List Slot) (dots : DotStates) (count i : ℕ) (a : Step DotStates)
+    → let r : Stepped = commonTaken dots (getD slots i (slot Absent)) count a in
+    leaves (r .stopped) (soFar (set slots i (r .slot)) (r .dots) (r .count)) ≡ withDots (soFar slots dots count) a
+common-done slots dots count i (next more) = rw (set-getD slots i (slot Absent))
+common-done slots dots count i (stop refusal left) = refl
+
+byte-done : (slots : List Slot) (dots : DotStates) (asked : Slot) (earlier : Cell) (count byte cell left : ℕ)
+    → let r : Stepped = byteTaken earlier dots asked count cell left in
+    leaves (r .stopped) (soFar (set slots byte (r .slot)) (r .dots) (r .count)) ≡ withByte (soFar slots dots count) earlier byte cell left
+byte-done slots dots asked Absent count byte cell left = refl
+byte-done slots dots asked (Dots c) count byte cell left = refl
+
+line-done : (slots : List Slot) (dots : DotStates) (count : ℕ) (read : TableLine)
+    → let r : Stepped = lineTaken dots (getD slots (byteIn read) (slot Absent)) count read in
+    leaves (r .stopped) (soFar (set slots (byteIn read) (r .slot)) (r .dots) (r .count)) ≡ withLine (soFar slots dots count) read
+line-done slots dots count (Common read) = common-done slots dots count 0 (withDot dots read)
+line-done slots dots count (Byte byte cell left) = byte-done slots dots (getD slots byte (slot Absent)) (getD slots byte (slot Absent) .cell) count byte cell left
+
+-- ---- the lines of a text
+
+pub come-first : (text : List ℕ) (dots : DotStates) → length text ≤ textLimit → dots ≡ dotStates allUnnamed 0
+    → Reached step text (compiledBytes text) 0 1 (soFar (replicate byteCount (slot Absent)) dots 0)
+unfolding compiledBytes runText
+come-first text dots short e = record { within = omega arith; count = omega arith; left = rw (e, le-ltb _ _ short) }
+
+-- the next line ends at e, is read so and asks for the slot of a byte; r is what the call on it left
+module _ (text : List ℕ) (at n : ℕ) (slots : List Slot) (dots : DotStates) (count : ℕ) (here : Reached step text (compiledBytes text) at n (soFar slots dots count))
+    (e : ℕ) (some : at < length text) (ends : LineEnd text at e) (read : TableLine) (reads : read ≡ readTableLine (withoutCR (take (e - at) (drop at text))))
+    (byte : ℕ) (asks : byte ≡ byteIn read) (r : Stepped) (taken : r ≡ lineTaken dots (getD slots byte (slot Absent)) count read) where
+  does : leaves (r .stopped) (soFar (set slots byte (r .slot)) (r .dots) (r .count)) ≡ step (soFar slots dots count) (withoutCR (take (e - at) (drop at text)))
+  unfolding step
+  does = rw (taken, asks, ← reads) (line-done slots dots count read)
+
+  pub taken-refused : (refusal : Refusal) (left : ℕ) {column : ℕ} → r .stopped ≡ By refusal left → column ≡ columnOf (withoutCR (take (e - at) (drop at text))) left
+      → compiledBytes text ≡ rejected refusal n column
+  taken-refused refusal left q c = line-refused step text (compiledBytes text) at n _ here e _ _ some ends does refusal left q c
+
+  pub taken-read : r .stopped ≡ No → Reached step text (compiledBytes text) (e + 1) (n + 1) (soFar (set slots byte (r .slot)) (r .dots) (r .count))
+  taken-read q = line-read step text (compiledBytes text) at n _ here e _ _ some ends does q
+
+-- what the call is to ensure: its answer, the column, and the cells
+abbrev Ensured : List ℕ → Compiled → List ℕ → Type 0
+Ensured text answer cells =
+    (compiledReply answer ≡ bytesReply (compiledBytes text)) × ((compiledColumn answer ≡ outcomeColumn (compiledBytes text)) × (cells ≡ outcomeCells (compiledBytes text)))
+
+pub accepted-cells : (text : List ℕ) (at n : ℕ) (s : SoFar) {cells : List ℕ} → Reached step text (compiledBytes text) at n s → length text ≤ at
+    → cells ≡ cellsFrom (s .dots .places) (s .slots) 0 → Ensured text (Accepted (s .count)) cells
+accepted-cells text at n s here h e = rw (lines-read step text (compiledBytes text) at n s here h) (refl, (refl, e))
+
+pub refused-cells : (text : List ℕ) {refusal : Refusal} {n column : ℕ} {answer : Compiled} {cells : List ℕ}
+    → compiledBytes text ≡ rejected refusal n column → answer ≡ Refused refusal n column → cells ≡ noCells → Ensured text answer cells
+refused-cells text q e p = (rw (q, e), (rw (q, e), rw (q, p)))
+
+pub long-text : (text : List ℕ) → textLimit < length text → compiledBytes text ≡ rejected TextTooLong 0 0
+unfolding compiledBytes runText
+long-text text h = rw (lt-ltb _ _ h)
+
+step-long : (s : SoFar) (line : List ℕ) → lineLimit < length line → step s line ≡ stop LineTooLong (length line - lineLimit)
+unfolding step readTableLine openingOf
+step-long s line h = rw (lt-ltb lineLimit (length line) h)
+
+-- no column lies beyond the first byte that a line has too many
+pub bytes-column : (text : List ℕ) → outcomeColumn (compiledBytes text) ≤ lineLimit + 1
+unfolding compiledBytes
+bytes-column text = run-column step step-long begun text

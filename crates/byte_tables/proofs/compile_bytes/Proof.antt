@@ -1,0 +1,13 @@
+use Rattle.byte_tables.proofs.Compile.{refused-cells, long-text}
+use borrow.Author.Needs.{needs}
+use Rattle.byte_tables.proofs.compile_bytes.Statement.{statement}
+use Rattle.byte_tables.proofs.compile_bytes.Tie as tie
+
+pub compile-bytes-spec : {M : Type 1} → statement M
+compile-bytes-spec =
+    tie.close
+    (tie.spec
+    (λ c κs. search needs)
+    (λ c. refused-cells _ (search long-text) (c .without-cells .ensures .0) (c .without-cells .ensures .1))
+    (λ c κs. search needs)
+    (λ c. search needs))

@@ -1,0 +1,50 @@
+-- What the code knows beyond the rules: bounds, and what a line leaves of the parts that it can change.
+use Prim.Native.Nat.{ℕ, _+_, _≤_}
+use Rattle.basics.specs.declared.Refusal.the-variants.{AlreadyDefined}
+use Rattle.lines.specs.Texts.{Step, next, stop}
+use Rattle.lines.specs.declared.Stopped.{Stopped}
+use Rattle.lines.specs.declared.Stopped.the-variants.{No, By}
+use Rattle.definitions.specs.declared.Cell.{Cell}
+use Rattle.definitions.specs.declared.Cell.the-variants.{Absent, Dots}
+use Rattle.attributes.specs.Compile.{withDot}
+use Rattle.attributes.specs.Internal.{DotWithin}
+use Rattle.attributes.specs.declared.DotStates.{DotStates}
+use Rattle.byte_tables.specs.Compile.{slot}
+use Rattle.byte_tables.specs.declared.ByteOperand.{ByteOperand}
+use Rattle.byte_tables.specs.declared.ByteOperand.the-variants as B
+use Rattle.byte_tables.specs.declared.TableLine.{TableLine}
+use Rattle.byte_tables.specs.declared.TableLine.the-variants.{Common, Byte}
+use Rattle.byte_tables.specs.declared.Slot.{Slot}
+use Rattle.byte_tables.specs.declared.Stepped.{Stepped}
+
+-- a position that is answered lies within so many bytes
+abbrev pub ByteWithin : ByteOperand → ℕ → Type 0
+ByteWithin (B.Fault refusal left) n = Unit {0}
+ByteWithin (B.Value byte after) n = after ≤ n
+
+-- a dot that is read is one of eight
+abbrev pub LineWithin : TableLine → Type 0
+LineWithin (Common read) = DotWithin read
+LineWithin (Byte byte cell left) = Unit {0}
+
+-- the byte whose slot a line asks for; any where it asks for none
+abbrev pub byteIn : TableLine → ℕ
+byteIn (Common read) = 0
+byteIn (Byte byte cell left) = byte
+
+-- what a line leaves: of what the whole table has only the states of the dots, one slot and a count, so that the loop alone holds
+-- the slots
+abbrev pub stepped : Stopped → DotStates → Slot → ℕ → Stepped
+stepped stopped dots slot count = record { stopped = stopped; dots = dots; slot = slot; count = count }
+
+abbrev pub commonTaken : DotStates → Slot → ℕ → Step DotStates → Stepped
+commonTaken dots asked count (next more) = stepped No more asked count
+commonTaken dots asked count (stop refusal left) = stepped (By refusal left) dots asked count
+
+abbrev pub byteTaken : Cell → DotStates → Slot → ℕ → ℕ → ℕ → Stepped
+byteTaken Absent dots asked count cell left = stepped No dots (slot (Dots cell)) (count + 1)
+byteTaken (Dots earlier) dots asked count cell left = stepped (By AlreadyDefined left) dots asked count
+
+abbrev pub lineTaken : DotStates → Slot → ℕ → TableLine → Stepped
+lineTaken dots asked count (Common read) = commonTaken dots asked count (withDot dots read)
+lineTaken dots asked count (Byte byte cell left) = byteTaken (asked .cell) dots asked count cell left

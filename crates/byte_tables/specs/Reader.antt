@@ -1,0 +1,77 @@
+-- Reading a line of a byte table: `byte`, which may be missing, a byte and its dots; or `dot`, a dot number and a state.
+-- Faults 6 to 9 and 16 as met from left to right.
+use Prim.Native.Nat.{ℕ, _-_}
+use mathlib.Core.Bool.{Bool, true, not, _||_}
+use mathlib.Core.List.{List}
+use lib.ListN.{length, getD}
+use lib.Dec.{eqb, leb}
+use Rattle.basics.specs.Ascii.{ascii}
+use Rattle.basics.specs.Choice.{pick, ifCharacter}
+use Rattle.basics.specs.declared.Refusal.{Refusal}
+use Rattle.basics.specs.declared.Refusal.the-variants.{MissingOperand, BadCharacter, TrailingText}
+use Rattle.basics.specs.declared.Maybe.{Maybe}
+use Rattle.basics.specs.declared.Maybe.the-variants.{Nothing}
+use Rattle.lines.specs.declared.Word.{Word}
+use Rattle.lines.specs.Words.{wordAt, bytesOf, isMissing, sameBytes, isOver}
+use Rattle.lines.specs.Texts.{openingOf, ifDirective}
+use Rattle.operands.specs.Characters.{backslash, characterOf}
+use Rattle.operands.specs.Operands.{dotsOperandAt, ifDotsValue}
+use Rattle.attributes.specs.Reader.{dotAt}
+use Rattle.attributes.specs.declared.DotLine.{DotLine}
+use Rattle.attributes.specs.declared.DotLine.the-variants as D
+use Rattle.byte_tables.specs.declared.ByteOperand.{ByteOperand}
+use Rattle.byte_tables.specs.declared.ByteOperand.the-variants as B
+use Rattle.byte_tables.specs.declared.TableLine.{TableLine}
+use Rattle.byte_tables.specs.declared.TableLine.the-variants.{Common, Byte}
+
+-- of the escapes only `\\`, `\x` and `\X` stand here, told by the byte after the backslash
+abbrev pub isByteForm : List ℕ → Bool
+isByteForm w = not (eqb (getD w 0 0) backslash) || (eqb (getD w 1 0) backslash || (eqb (getD w 1 0) 120 || eqb (getD w 1 0) 88))
+
+-- the character that a whole word writes
+unfoldable pub writtenIn : List ℕ → Maybe
+writtenIn w = pick (isByteForm w) (characterOf w) Nothing
+
+-- a character as its byte: the local set has those up to U+00FF
+abbrev pub asByte : ℕ → ℕ → ℕ → ByteOperand
+asByte c left after = pick (leb c 255) (B.Value c after) (B.Fault BadCharacter left)
+
+-- the next word as a byte operand: none is 6, at the line's end; a bad one 7, at its first byte
+unfoldable pub byteAt : List ℕ → ℕ → ByteOperand
+byteAt line at =
+    let w : Word = wordAt line at in
+    let left : ℕ = length line - w .start in
+    pick (isMissing w) (B.Fault MissingOperand 0)
+    (ifCharacter (writtenIn (bytesOf line w)) (B.Fault BadCharacter left) (λ c. asByte c left (w .end)))
+
+-- what follows from a byte operand, and from its fault
+abbrev pub ifByte : {A : Type 0} → ByteOperand → (Refusal → ℕ → A) → (ℕ → ℕ → A) → A
+ifByte (B.Fault refusal left) bad good = bad refusal left
+ifByte (B.Value byte after) bad good = good byte after
+
+abbrev pub fault : Refusal → ℕ → TableLine
+fault refusal left = Common (D.Fault refusal left)
+
+-- behind the last operand: nothing, or a comment
+abbrev pub finished : List ℕ → ℕ → TableLine → TableLine
+finished line at read = pick (isOver line at) read (fault TrailingText (length line - wordAt line at .start))
+
+-- a byte line from its byte operand on
+unfoldable pub byteLine : List ℕ → ℕ → ℕ → TableLine
+byteLine line at left =
+    ifByte (byteAt line at) fault (λ byte after.
+    ifDotsValue (dotsOperandAt true line after) fault (λ cell end.
+    finished line end (Byte byte cell left)))
+
+-- a line begun by `dot` or `byte` is that; any other is a byte line too, its first word the operand
+unfoldable pub tableLine : List ℕ → TableLine
+tableLine line =
+    let w : Word = wordAt line 0 in
+    let left : ℕ = length line - w .start in
+    pick (sameBytes (bytesOf line w) (ascii "dot")) (Common (dotAt true line (w .end) left))
+    (pick (sameBytes (bytesOf line w) (ascii "byte")) (byteLine line (w .end) left)
+    (byteLine line (w .start) left))
+
+-- a whole line, without its end: 3, 4, then the others
+unfoldable pub readTableLine : List ℕ → TableLine
+readTableLine line = ifDirective (openingOf line) fault (Common D.Skip) (tableLine line)
