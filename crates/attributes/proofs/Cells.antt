@@ -1,7 +1,7 @@
 -- Whether a dot is raised, and the sum of the weights, dot by dot.
 use Prim.Native.Nat.{ℕ, _+_, _*_, _%_, _≤_, _<_, _^_}
-use mathlib.Core.Path.{_≡_, sym, _∙_}
-use mathlib.Core.Bool.{Bool, not}
+use mathlib.Core.Path.{_≡_, refl, sym, _∙_}
+use mathlib.Core.Bool.{Bool, true, not}
 use mathlib.Core.List.{List}
 use native.Mathlib.Nat.{add-zero, two-pow-succ, pow-le-pow-right, mod-eq-of-lt}
 use native.Mathlib.Numerals.{add-one}
@@ -11,9 +11,10 @@ use lib.Seq.{drop-cons}
 use Rattle.basics.specs.Choice.{pick}
 use Rattle.basics.proofs.Tests.{by-test}
 use Rattle.attributes.specs.Cells.{isOn, isRaised, cellFrom, place}
+use Rattle.attributes.specs.Compile.{isNamed}
 use Rattle.attributes.specs.declared.Attribute.{Attribute}
 use Rattle.attributes.specs.declared.State.{State}
-use Rattle.attributes.specs.declared.State.the-variants.{Unnamed, On, Off}
+use Rattle.attributes.specs.declared.State.the-variants.{Unnamed, On, Off, Always, Never}
 use Rattle.attributes.specs.declared.Place.{Place}
 
 module _ (unnamed : Bool) (state : State) (byte : ℕ) (name : Attribute) (r : Bool) (e : r ≡ isOn name byte) where
@@ -22,6 +23,14 @@ module _ (unnamed : Bool) (state : State) (byte : ℕ) (name : Attribute) (r : B
 
   pub raised-off : state ≡ Off name → not r ≡ isRaised unnamed state byte
   raised-off q = rw (q, e)
+
+-- the default counts only for a dot without a line: where one has a line, both kinds of table raise it alike
+pub raised-by-state : (unnamed other : Bool) (state : State) (byte : ℕ) → isNamed state ≡ true → isRaised unnamed state byte ≡ isRaised other state byte
+raised-by-state unnamed other Unnamed byte e = cc
+raised-by-state unnamed other (On name) byte e = refl
+raised-by-state unnamed other (Off name) byte e = refl
+raised-by-state unnamed other Always byte e = refl
+raised-by-state unnamed other Never byte e = refl
 
 weight-small : (i : ℕ) → i < 8 → 2 ^ i ≤ 128
 weight-small i h = let p : i ≤ 7 = omega arith in pow-le-pow-right (omega arith) p

@@ -381,15 +381,15 @@ fn dot_step(f: DotStates, line: &[u8]) -> Stepped
 fn refused_table(refusal: Refusal, line: usize, column: usize) -> Attributes
     ensures { λ r. ⌜ (r .answer ≡ Compiled.Refused refusal line column) × (r .places ≡ allUnnamed) ⌝ }
 {
+    let none = no_states();
+    let places = none.places;
     Attributes {
         answer: Compiled::Refused {
             refusal,
             line,
             column,
         },
-        places: [Place {
-            state: State::Unnamed,
-        }; 8],
+        places,
     }
 }
 

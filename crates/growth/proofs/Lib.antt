@@ -1,3 +1,4 @@
 pub mod Marked
 pub mod Rules
 pub mod Growth
+pub mod Editions

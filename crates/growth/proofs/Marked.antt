@@ -1,9 +1,14 @@
--- The cases that document 01 marks with *, worked blocks and worked columns: a claim over each table, closed by computation, from the bytes of a text to the answers.
+-- The cases that document 01 marks with *, worked blocks, worked columns and worked editions: a claim over each table, closed by computation, from the bytes of a text to the answers.
 use mathlib.Core.Path.{_≡_, refl}
 use mathlib.Core.Bool.{true}
 use Rattle.attributes.specs.Cells.{cellFrom}
 use Rattle.attributes.specs.Compile.{readDotLine, dotStep, compiledAttributes}
-use Rattle.attributes.specs.Reader.{backgroundState, namedState, stateOf, stateIn, stateAt, dotAt, dotLine}
+use Rattle.attributes.specs.Reader.{backgroundState, namedState, stateOf, fixedState, stateIn, stateAt, dotAt, dotLine}
+use Rattle.byte_tables.specs.Reader.{writtenIn, byteAt, byteLine, tableLine, readTableLine}
+use Rattle.byte_tables.specs.Compile as B
+use Rattle.byte_tables.specs.Compile.{compiledBytes, cellsFrom}
+use Rattle.editions.specs.Editions.{editionReply, editionColumn, editionCells}
+use Rattle.growth.specs.Editions.{workedEditions}
 use Rattle.blocks.specs.Blocks.{aroundOf}
 use Rattle.compiler.specs.Compile.{lineEffect, step, compiled, compileReply, compileColumn, compileWords}
 use Rattle.reader.specs.Conditions.{hasGlyph, hasCell}
@@ -28,9 +33,9 @@ use Rattle.unicode.specs.Characters.{localOf, standsFor}
 use Rattle.unicode.specs.Utf8.{afterFirst, afterFurther, utf8From}
 
 -- all tables, since they are computed by the same definitions
-computed : (everyOne marked ≡ true) × (everyOne workedBlocks ≡ true) × (everyOne workedColumns ≡ true)
-unfolding cellFrom readDotLine dotStep compiledAttributes backgroundState namedState stateOf stateIn stateAt dotAt dotLine aroundOf blockLine readFirst readLine lineEffect step compiled compileReply compileColumn compileWords hasGlyph hasCell conditionOf directiveOf finished dotsLine aliasLine conditionAt glyphCondition cellCondition frontOf ifHolds readFrom find explicit aliasOf walkWithin walk aliases typedIn verdictOf wordsFor comesOut everyOne linesOf withoutCR openingOf runLines runText isBlank firstFrom firstAt wordAt sameBytes isOver lookupReply firstNoScalar pagePlan candidates choose rulesFrom3 lookup digitOf withDigit digitsFrom plainOf shortOf radixOf wordNumber characterOf byteOf raiseBy raise raiseInside endsAt digitsAt insideAt cellAt dotsAt characterAt dotsOperandAt zeroFrom checkFrom checkOf lentTable wordsOf isSoundWord meaningOf definitions filledFrom localOf standsFor afterFirst afterFurther utf8From
-computed = (refl, refl, refl)
+computed : (everyOne marked ≡ true) × (everyOne workedBlocks ≡ true) × (everyOne workedColumns ≡ true) × (everyOne workedEditions ≡ true)
+unfolding cellFrom readDotLine dotStep compiledAttributes backgroundState namedState stateOf fixedState stateIn stateAt dotAt dotLine writtenIn byteAt byteLine tableLine readTableLine B.step compiledBytes cellsFrom editionReply editionColumn editionCells aroundOf blockLine readFirst readLine lineEffect step compiled compileReply compileColumn compileWords hasGlyph hasCell conditionOf directiveOf finished dotsLine aliasLine conditionAt glyphCondition cellCondition frontOf ifHolds readFrom find explicit aliasOf walkWithin walk aliases typedIn verdictOf wordsFor comesOut everyOne linesOf withoutCR openingOf runLines runText isBlank firstFrom firstAt wordAt sameBytes isOver lookupReply firstNoScalar pagePlan candidates choose rulesFrom3 lookup digitOf withDigit digitsFrom plainOf shortOf radixOf wordNumber characterOf byteOf raiseBy raise raiseInside endsAt digitsAt insideAt cellAt dotsAt characterAt dotsOperandAt zeroFrom checkFrom checkOf lentTable wordsOf isSoundWord meaningOf definitions filledFrom localOf standsFor afterFirst afterFurther utf8From
+computed = (refl, refl, refl, refl)
 
 pub marked-cases : everyOne marked ≡ true
 marked-cases = computed .0
@@ -40,3 +45,6 @@ worked-blocks = computed .1
 
 pub worked-columns : everyOne workedColumns ≡ true
 worked-columns = computed .2
+
+pub worked-editions : everyOne workedEditions ≡ true
+worked-editions = computed .3

@@ -2,3 +2,4 @@ pub mod Growth
 pub mod Marked
 pub mod Blocks
 pub mod Columns
+pub mod Editions

@@ -4,7 +4,7 @@ use Prim.Native.String.{String}
 use mathlib.Core.Bool.{Bool, true, false, not, _&&_}
 use mathlib.Core.List.{List, [], _∷_}
 use lib.Dec.{eqb}
-use lib.ListN.{replicate}
+use lib.ListN.{getD, replicate}
 use Rattle.basics.specs.Ascii.{ascii}
 use Rattle.basics.specs.Choice.{isCharacter}
 use Rattle.basics.specs.Refusals.{Reply, answered, refused}
@@ -16,6 +16,7 @@ use Rattle.typing.specs.Typing.{typedBy}
 use Rattle.compiler.specs.Compile.{compileReply, compileColumn, compileWords}
 use Rattle.attributes.specs.Cells.{attributeCell}
 use Rattle.attributes.specs.Compile.{compiledAttributes, attributesReply, outcomePlaces}
+use Rattle.editions.specs.Editions.{editionReply, editionColumn, editionCells}
 
 abbrev pub smallTable : String
 smallTable = "char a 1\nchar b (12)\nglyph A 17\nalias \\u00E4 a\nalias \\u03B1 \\u00E4\nchar ? 1456\n"
@@ -33,6 +34,11 @@ pub data Case : Type 0 where
   -- a text table that is refused: the number, the line and the column; and an attributes table
   refuses : String → ℕ → ℕ → ℕ → Case
   refusesDots : String → ℕ → ℕ → ℕ → Case
+  -- an edition and a text: the count; the number, the line and the column of its refusal
+  countsIn : ℕ → String → ℕ → Case
+  refusesIn : ℕ → String → ℕ → ℕ → ℕ → Case
+  -- a byte table and a byte: its cell
+  showsByte : String → ℕ → ℕ → Case
 
 abbrev pub marked : List Case
 marked =
@@ -63,6 +69,10 @@ abbrev pub isRefusal : Reply ℕ → ℕ → ℕ → Bool
 isRefusal (answered count) number line = false
 isRefusal (refused number₁ line₁) number line = eqb number₁ number && eqb line₁ line
 
+abbrev pub isCount : Reply ℕ → ℕ → Bool
+isCount (answered count₁) count = eqb count₁ count
+isCount (refused number line) count = false
+
 -- whether a case comes out as it is written
 unfoldable pub comesOut : Case → Bool
 comesOut (shows text c cell rule links) = isAnswer (lookupReply (wordsFor text) c) cell rule links
@@ -72,6 +82,10 @@ comesOut (refuses text number line column) =
     isRefusal (compileReply (ascii text) tableWords) number line && eqb (compileColumn (ascii text) tableWords) column
 comesOut (refusesDots text number line column) =
     isRefusal (attributesReply (compiledAttributes (ascii text))) number line && eqb (outcomeColumn (compiledAttributes (ascii text))) column
+comesOut (countsIn edition text count) = isCount (editionReply edition (ascii text) tableWords) count
+comesOut (refusesIn edition text number line column) =
+    isRefusal (editionReply edition (ascii text) tableWords) number line && eqb (editionColumn edition (ascii text) tableWords) column
+comesOut (showsByte text byte cell) = eqb (getD (editionCells 1 (ascii text)) byte 0) cell
 
 unfoldable pub everyOne : List Case → Bool
 everyOne [] = true
