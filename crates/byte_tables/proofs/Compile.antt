@@ -2,6 +2,7 @@
 use Prim.Native.Nat.{ℕ, _+_, _-_, _≤_, _<_}
 use mathlib.Core.Path.{_≡_, refl}
 use mathlib.Core.List.{List}
+use native.Mathlib.Nat.{add-zero}
 use native.Mathlib.Omega.{arith}
 use lib.ListN.{length, take, drop, getD, set, replicate}
 use lib.Seq.{set-getD}
@@ -34,40 +35,39 @@ use Rattle.byte_tables.specs.declared.Stepped.{Stepped}
 -- ---- one line
 
 -- what a dot's line leaves, o and f as the call answered it
-module _ (dots : DotStates) (asked : Slot) (count : ℕ) (read : DotLine) (o : Stopped) (f : DotStates) (does : leaves o f ≡ withDot dots read) where
-  pub common-refused : (refusal : Refusal) (left : ℕ) → o ≡ By refusal left → stepped (By refusal left) dots asked count ≡ commonTaken dots asked count (withDot dots read)
+module _ (dots : DotStates) (asked : Slot) (read : DotLine) (o : Stopped) (f : DotStates) (does : leaves o f ≡ withDot dots read) where
+  pub common-refused : (refusal : Refusal) (left : ℕ) → o ≡ By refusal left → stepped (By refusal left) dots asked 0 ≡ commonTaken dots asked (withDot dots read)
   common-refused refusal left q = rw (← does, q)
 
-  pub common-read : o ≡ No → stepped No f asked count ≡ commonTaken dots asked count (withDot dots read)
+  pub common-read : o ≡ No → stepped No f asked 0 ≡ commonTaken dots asked (withDot dots read)
   common-read q = rw (← does, q)
 
 -- the case k of what was read, and of the cell in the slot
-pub on-read : (dots : DotStates) (asked : Slot) (count : ℕ) {read k : TableLine} {r : Stepped} → read ≡ k → r ≡ lineTaken dots asked count k → r ≡ lineTaken dots asked count read
-on-read dots asked count q h = rw q h
+pub on-read : (dots : DotStates) (asked : Slot) {read k : TableLine} {r : Stepped} → read ≡ k → r ≡ lineTaken dots asked k → r ≡ lineTaken dots asked read
+on-read dots asked q h = rw q h
 
-pub on-earlier : (dots : DotStates) (asked : Slot) (count cell left : ℕ) {earlier k : Cell} {r : Stepped} → earlier ≡ k → r ≡ byteTaken k dots asked count cell left
-    → r ≡ byteTaken earlier dots asked count cell left
-on-earlier dots asked count cell left q h = rw q h
+pub on-earlier : (dots : DotStates) (asked : Slot) (cell left : ℕ) {earlier k : Cell} {r : Stepped} → earlier ≡ k → r ≡ byteTaken k dots asked cell left → r ≡ byteTaken earlier dots asked cell left
+on-earlier dots asked cell left q h = rw q h
 
 pub common-within : {read : TableLine} {k : DotLine} → LineWithin read → read ≡ Common k → DotWithin k
 common-within h q = rw q at h
 
--- the parts that a line leaves are what it does
-common-done : (slots : List Slot) (dots : DotStates) (count i : ℕ) (a : Step DotStates)
-    → let r : Stepped = commonTaken dots (getD slots i (slot Absent)) count a in
-    leaves (r .stopped) (soFar (set slots i (r .slot)) (r .dots) (r .count)) ≡ withDots (soFar slots dots count) a
-common-done slots dots count i (next more) = rw (set-getD slots i (slot Absent))
+-- the whole table with the parts that a line leaves
+abbrev pub with : List Slot → ℕ → ℕ → Stepped → Step SoFar
+with slots count i r = leaves (r .stopped) (soFar (set slots i (r .slot)) (r .dots) (count + r .counted))
+
+-- which is what the line does
+common-done : (slots : List Slot) (dots : DotStates) (count i : ℕ) (a : Step DotStates) → with slots count i (commonTaken dots (getD slots i (slot Absent)) a) ≡ withDots (soFar slots dots count) a
+common-done slots dots count i (next more) = rw (set-getD slots i (slot Absent), add-zero count)
 common-done slots dots count i (stop refusal left) = refl
 
 byte-done : (slots : List Slot) (dots : DotStates) (asked : Slot) (earlier : Cell) (count byte cell left : ℕ)
-    → let r : Stepped = byteTaken earlier dots asked count cell left in
-    leaves (r .stopped) (soFar (set slots byte (r .slot)) (r .dots) (r .count)) ≡ withByte (soFar slots dots count) earlier byte cell left
+    → with slots count byte (byteTaken earlier dots asked cell left) ≡ withByte (soFar slots dots count) earlier byte cell left
 byte-done slots dots asked Absent count byte cell left = refl
 byte-done slots dots asked (Dots c) count byte cell left = refl
 
 line-done : (slots : List Slot) (dots : DotStates) (count : ℕ) (read : TableLine)
-    → let r : Stepped = lineTaken dots (getD slots (byteIn read) (slot Absent)) count read in
-    leaves (r .stopped) (soFar (set slots (byteIn read) (r .slot)) (r .dots) (r .count)) ≡ withLine (soFar slots dots count) read
+    → with slots count (byteIn read) (lineTaken dots (getD slots (byteIn read) (slot Absent)) read) ≡ withLine (soFar slots dots count) read
 line-done slots dots count (Common read) = common-done slots dots count 0 (withDot dots read)
 line-done slots dots count (Byte byte cell left) = byte-done slots dots (getD slots byte (slot Absent)) (getD slots byte (slot Absent) .cell) count byte cell left
 
@@ -81,8 +81,8 @@ come-first text dots short e = record { within = omega arith; count = omega arit
 -- the next line ends at e, is read so and asks for the slot of a byte; r is what the call on it left
 module _ (text : List ℕ) (at n : ℕ) (slots : List Slot) (dots : DotStates) (count : ℕ) (here : Reached step text (compiledBytes text) at n (soFar slots dots count))
     (e : ℕ) (some : at < length text) (ends : LineEnd text at e) (read : TableLine) (reads : read ≡ readTableLine (withoutCR (take (e - at) (drop at text))))
-    (byte : ℕ) (asks : byte ≡ byteIn read) (r : Stepped) (taken : r ≡ lineTaken dots (getD slots byte (slot Absent)) count read) where
-  does : leaves (r .stopped) (soFar (set slots byte (r .slot)) (r .dots) (r .count)) ≡ step (soFar slots dots count) (withoutCR (take (e - at) (drop at text)))
+    (byte : ℕ) (asks : byte ≡ byteIn read) (r : Stepped) (taken : r ≡ lineTaken dots (getD slots byte (slot Absent)) read) where
+  does : with slots count byte r ≡ step (soFar slots dots count) (withoutCR (take (e - at) (drop at text)))
   unfolding step
   does = rw (taken, asks, ← reads) (line-done slots dots count read)
 
@@ -90,7 +90,7 @@ module _ (text : List ℕ) (at n : ℕ) (slots : List Slot) (dots : DotStates) (
       → compiledBytes text ≡ rejected refusal n column
   taken-refused refusal left q c = line-refused step text (compiledBytes text) at n _ here e _ _ some ends does refusal left q c
 
-  pub taken-read : r .stopped ≡ No → Reached step text (compiledBytes text) (e + 1) (n + 1) (soFar (set slots byte (r .slot)) (r .dots) (r .count))
+  pub taken-read : r .stopped ≡ No → Reached step text (compiledBytes text) (e + 1) (n + 1) (soFar (set slots byte (r .slot)) (r .dots) (count + r .counted))
   taken-read q = line-read step text (compiledBytes text) at n _ here e _ _ some ends does q
 
 -- what the call is to ensure: its answer, the column, and the cells

@@ -1,5 +1,5 @@
 -- What the code knows beyond the rules: bounds, and what a line leaves of the parts that it can change.
-use Prim.Native.Nat.{ℕ, _+_, _≤_}
+use Prim.Native.Nat.{ℕ, _≤_}
 use Rattle.basics.specs.declared.Refusal.the-variants.{AlreadyDefined}
 use Rattle.lines.specs.Texts.{Step, next, stop}
 use Rattle.lines.specs.declared.Stopped.{Stopped}
@@ -32,19 +32,19 @@ abbrev pub byteIn : TableLine → ℕ
 byteIn (Common read) = 0
 byteIn (Byte byte cell left) = byte
 
--- what a line leaves: of what the whole table has only the states of the dots, one slot and a count, so that the loop alone holds
--- the slots
+-- what a line leaves: of the whole table only the states of the dots and one slot, so that the loop alone holds all slots; and
+-- how many byte lines it is
 abbrev pub stepped : Stopped → DotStates → Slot → ℕ → Stepped
-stepped stopped dots slot count = record { stopped = stopped; dots = dots; slot = slot; count = count }
+stepped stopped dots slot counted = record { stopped = stopped; dots = dots; slot = slot; counted = counted }
 
-abbrev pub commonTaken : DotStates → Slot → ℕ → Step DotStates → Stepped
-commonTaken dots asked count (next more) = stepped No more asked count
-commonTaken dots asked count (stop refusal left) = stepped (By refusal left) dots asked count
+abbrev pub commonTaken : DotStates → Slot → Step DotStates → Stepped
+commonTaken dots asked (next more) = stepped No more asked 0
+commonTaken dots asked (stop refusal left) = stepped (By refusal left) dots asked 0
 
-abbrev pub byteTaken : Cell → DotStates → Slot → ℕ → ℕ → ℕ → Stepped
-byteTaken Absent dots asked count cell left = stepped No dots (slot (Dots cell)) (count + 1)
-byteTaken (Dots earlier) dots asked count cell left = stepped (By AlreadyDefined left) dots asked count
+abbrev pub byteTaken : Cell → DotStates → Slot → ℕ → ℕ → Stepped
+byteTaken Absent dots asked cell left = stepped No dots (slot (Dots cell)) 1
+byteTaken (Dots earlier) dots asked cell left = stepped (By AlreadyDefined left) dots asked 0
 
-abbrev pub lineTaken : DotStates → Slot → ℕ → TableLine → Stepped
-lineTaken dots asked count (Common read) = commonTaken dots asked count (withDot dots read)
-lineTaken dots asked count (Byte byte cell left) = byteTaken (asked .cell) dots asked count cell left
+abbrev pub lineTaken : DotStates → Slot → TableLine → Stepped
+lineTaken dots asked (Common read) = commonTaken dots asked (withDot dots read)
+lineTaken dots asked (Byte byte cell left) = byteTaken (asked .cell) dots asked cell left

@@ -40,13 +40,13 @@ pub struct Slot {
     pub cell: Cell,
 }
 
-// What a line leaves: whether it was refused, and then the states of the dots, the slot that it asks for, and the count of
-// byte lines.
+// What a line leaves: whether it was refused, and then the states of the dots, the slot that it asks for, and how many byte
+// lines it is.
 pub struct Stepped {
     pub stopped: Stopped,
     pub dots: DotStates,
     pub slot: Slot,
-    pub count: usize,
+    pub counted: usize,
 }
 
 // What compiling answers, with the count of byte lines, and the cells of the 256 bytes, all 255 where there are none.
@@ -192,11 +192,11 @@ fn byte_in(read: TableLine) -> u8
     }
 }
 
-// What a line leaves that an attributes table has too; `asked` and `count` stay.
-fn take_common(dots: DotStates, asked: Slot, count: usize, read: DotLine) -> Stepped
+// What a line leaves that an attributes table has too; `asked` stays.
+fn take_common(dots: DotStates, asked: Slot, read: DotLine) -> Stepped
     requires { ⌜ DotWithin read × (dots .lines < textLimit) ⌝ }
-    ensures { λ r. ⌜ r ≡ commonTaken dots asked count (withDot dots read) ⌝ }
-    ensures { λ r. ⌜ (r .dots .lines ≤ dots .lines + 1) × (r .count ≤ count + 1) ⌝ }
+    ensures { λ r. ⌜ r ≡ commonTaken dots asked (withDot dots read) ⌝ }
+    ensures { λ r. ⌜ (r .dots .lines ≤ dots .lines + 1) × (r .counted ≤ 1) ⌝ }
 {
     let next = attributes::with_dot(dots, read);
     let stopped = next.stopped;
@@ -206,22 +206,21 @@ fn take_common(dots: DotStates, asked: Slot, count: usize, read: DotLine) -> Ste
             stopped: Stopped::By(refusal, left),
             dots,
             slot: asked,
-            count,
+            counted: 0,
         },
         Stopped::No => Stepped {
             stopped: Stopped::No,
             dots: more,
             slot: asked,
-            count,
+            counted: 0,
         },
     }
 }
 
 // What a byte's line leaves, unless that byte has one.
-fn take_byte(dots: DotStates, asked: Slot, count: usize, cell: u8, left: usize) -> Stepped
-    requires { ⌜ count < textLimit ⌝ }
-    ensures { λ r. ⌜ r ≡ byteTaken (asked .cell) dots asked count cell left ⌝ }
-    ensures { λ r. ⌜ (r .dots .lines ≤ dots .lines + 1) × (r .count ≤ count + 1) ⌝ }
+fn take_byte(dots: DotStates, asked: Slot, cell: u8, left: usize) -> Stepped
+    ensures { λ r. ⌜ r ≡ byteTaken (asked .cell) dots asked cell left ⌝ }
+    ensures { λ r. ⌜ (r .dots .lines ≤ dots .lines + 1) × (r .counted ≤ 1) ⌝ }
 {
     let earlier = asked.cell;
     match earlier {
@@ -231,26 +230,26 @@ fn take_byte(dots: DotStates, asked: Slot, count: usize, cell: u8, left: usize) 
             slot: Slot {
                 cell: Cell::Dots(cell),
             },
-            count: count + 1,
+            counted: 1,
         },
         Cell::Dots(_) => Stepped {
             stopped: Stopped::By(Refusal::AlreadyDefined, left),
             dots,
             slot: asked,
-            count,
+            counted: 0,
         },
     }
 }
 
 // What a line leaves, `asked` being the slot that it asks for.
-fn take_line(dots: DotStates, asked: Slot, count: usize, read: TableLine) -> Stepped
-    requires { ⌜ LineWithin read × (dots .lines < textLimit) × (count < textLimit) ⌝ }
-    ensures { λ r. ⌜ r ≡ lineTaken dots asked count read ⌝ }
-    ensures { λ r. ⌜ (r .dots .lines ≤ dots .lines + 1) × (r .count ≤ count + 1) ⌝ }
+fn take_line(dots: DotStates, asked: Slot, read: TableLine) -> Stepped
+    requires { ⌜ LineWithin read × (dots .lines < textLimit) ⌝ }
+    ensures { λ r. ⌜ r ≡ lineTaken dots asked read ⌝ }
+    ensures { λ r. ⌜ (r .dots .lines ≤ dots .lines + 1) × (r .counted ≤ 1) ⌝ }
 {
     match read {
-        TableLine::Common(common) => take_common(dots, asked, count, common),
-        TableLine::Byte(_, cell, left) => take_byte(dots, asked, count, cell, left),
+        TableLine::Common(common) => take_common(dots, asked, common),
+        TableLine::Byte(_, cell, left) => take_byte(dots, asked, cell, left),
     }
 }
 
@@ -307,7 +306,7 @@ fn read_lines(text: &[u8]) -> Compilation
         let read = read_line(here);
         let byte = byte_in(read) as usize;
         let asked = slots[byte];
-        let next = take_line(dots, asked, count, read);
+        let next = take_line(dots, asked, read);
         let stopped = next.stopped;
         match stopped {
             Stopped::By(refusal, left) => {
@@ -321,7 +320,7 @@ fn read_lines(text: &[u8]) -> Compilation
                 let slot = next.slot;
                 slots[byte] = slot;
                 dots = next.dots;
-                count = next.count;
+                count += next.counted;
             }
         }
         at = end + 1;

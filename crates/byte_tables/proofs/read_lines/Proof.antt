@@ -44,6 +44,7 @@ read-lines-spec =
     (λ c. search needs)
     (λ c. search needs)
     (λ c. search needs)
+    (λ c. search needs)
     (λ c. (search needs, search needs, search taken-read))
     (λ c κs. search needs)
     (λ c. accepted-cells _ _ _ _ (c .before .before .before .loop .inv .2) (search needs) (c .cells-of .ensures)))

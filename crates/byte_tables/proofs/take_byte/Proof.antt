@@ -9,6 +9,5 @@ take-byte-spec =
     (tie.spec
     (λ c. search needs)
     (λ c. search needs)
-    (λ c. search needs)
     (λ c. (search on-earlier, (search needs, search needs)))
     (λ c. (search on-earlier, (search needs, search needs))))
