@@ -1,22 +1,18 @@
 -- One line more, and the lines of a text one after another.
 use Prim.Native.Nat.{ℕ, _+_, _-_, _*_, _≤_, _<_}
-use mathlib.Core.Path.{_≡_, refl}
+use mathlib.Core.Path.{_≡_}
 use mathlib.Core.List.{List}
 use native.Mathlib.Omega.{arith}
 use lib.ListN.{length, take}
-use borrow.Author.Tests.{lt-ltb, le-ltb}
-use Rattle.basics.specs.declared.Refusal.{Refusal}
+use borrow.Author.Tests.{lt-ltb}
 use Rattle.basics.specs.declared.Refusal.the-variants.{TextTooLong, LineTooLong}
 use Rattle.lines.specs.Lines.{withoutCR}
-use Rattle.lines.specs.Texts.{textLimit, lineLimit, openingOf, Step, stop, rejected, runText, outcomeColumn, compiledReply, compiledColumn}
-use Rattle.lines.specs.declared.Compiled.{Compiled}
-use Rattle.lines.specs.declared.Compiled.the-variants.{Accepted, Refused}
-use Rattle.lines.proofs.Texts.{Reached, lines-read, run-column}
+use Rattle.lines.specs.Texts.{textLimit, lineLimit, openingOf, Step, stop, rejected, outcomeColumn}
+use Rattle.lines.proofs.Texts.{Reached, text-first, text-long, run-column}
 use Rattle.attributes.specs.Cells.{allUnnamed}
-use Rattle.attributes.specs.Compile.{dotStates, readDotLine, withDot, dotStep, compiledAttributes, attributesReply, outcomePlaces}
+use Rattle.attributes.specs.Compile.{dotStates, readDotLine, withDot, dotStep, compiledAttributes}
 use Rattle.attributes.specs.Internal.{DotWithin}
 use Rattle.attributes.specs.declared.State.{State}
-use Rattle.attributes.specs.declared.Place.{Place}
 use Rattle.attributes.specs.declared.DotStates.{DotStates}
 use Rattle.attributes.specs.declared.DotLine.{DotLine}
 use Rattle.attributes.specs.declared.DotLine.the-variants.{Dot}
@@ -38,27 +34,15 @@ unfolding dotStep
 step-read f line n read x c e h = rw (← c, ← e) h
 
 pub come-first : (text : List ℕ) (f : DotStates) → length text ≤ textLimit → f ≡ dotStates allUnnamed 0 → Reached dotStep text (compiledAttributes text) 0 1 f
-unfolding compiledAttributes runText
-come-first text f short e = record { within = omega arith; count = omega arith; left = rw (e, le-ltb _ _ short) }
+unfolding compiledAttributes
+come-first text f short e = rw e (text-first dotStep (dotStates allUnnamed 0) text short)
 
 pub no-lines : (f : DotStates) → f ≡ dotStates allUnnamed 0 → f .lines ≤ 0
 no-lines f e = rw e (omega arith)
 
--- what the call is to ensure: its answer, the column, and the places
-abbrev Ensured : List ℕ → Compiled → List Place → Type 0
-Ensured text answer places =
-    (compiledReply answer ≡ attributesReply (compiledAttributes text)) × ((compiledColumn answer ≡ outcomeColumn (compiledAttributes text)) × (places ≡ outcomePlaces (compiledAttributes text)))
-
-pub accepted-places : (text : List ℕ) (at n : ℕ) (f : DotStates) → Reached dotStep text (compiledAttributes text) at n f → length text ≤ at → Ensured text (Accepted (f .lines)) (f .places)
-accepted-places text at n f here h = rw (lines-read dotStep text (compiledAttributes text) at n f here h) (refl, (refl, refl))
-
-pub refused-places : (text : List ℕ) {refusal : Refusal} {n column : ℕ} {answer : Compiled} {places : List Place}
-    → compiledAttributes text ≡ rejected refusal n column → answer ≡ Refused refusal n column → places ≡ allUnnamed → Ensured text answer places
-refused-places text q e p = (rw (q, e), (rw (q, e), rw (q, p)))
-
 pub long-text : (text : List ℕ) → textLimit < length text → compiledAttributes text ≡ rejected TextTooLong 0 0
-unfolding compiledAttributes runText
-long-text text h = rw (lt-ltb _ _ h)
+unfolding compiledAttributes
+long-text text h = text-long dotStep (dotStates allUnnamed 0) text h
 
 step-long : (f : DotStates) (line : List ℕ) → lineLimit < length line → dotStep f line ≡ stop LineTooLong (length line - lineLimit)
 unfolding dotStep readDotLine openingOf

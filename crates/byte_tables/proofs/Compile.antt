@@ -3,20 +3,17 @@ use Prim.Native.Nat.{ℕ, _+_, _-_, _≤_, _<_}
 use mathlib.Core.Path.{_≡_, refl}
 use mathlib.Core.List.{List}
 use native.Mathlib.Nat.{add-zero}
-use native.Mathlib.Omega.{arith}
 use lib.ListN.{length, take, drop, getD, set, replicate}
 use lib.Seq.{set-getD}
-use borrow.Author.Tests.{lt-ltb, le-ltb}
+use borrow.Author.Tests.{lt-ltb}
 use Rattle.basics.specs.declared.Refusal.{Refusal}
 use Rattle.basics.specs.declared.Refusal.the-variants.{TextTooLong, LineTooLong}
-use Rattle.lines.specs.Texts.{textLimit, lineLimit, openingOf, Step, next, stop, columnOf, rejected, runText, outcomeColumn, compiledReply, compiledColumn}
+use Rattle.lines.specs.Texts.{textLimit, lineLimit, openingOf, Step, next, stop, columnOf, rejected, outcomeColumn}
 use Rattle.lines.specs.Lines.{withoutCR}
 use Rattle.lines.specs.Internal.{LineEnd, leaves}
-use Rattle.lines.specs.declared.Compiled.{Compiled}
-use Rattle.lines.specs.declared.Compiled.the-variants.{Accepted, Refused}
 use Rattle.lines.specs.declared.Stopped.{Stopped}
 use Rattle.lines.specs.declared.Stopped.the-variants.{No, By}
-use Rattle.lines.proofs.Texts.{Reached, lines-read, line-read, line-refused, run-column}
+use Rattle.lines.proofs.Texts.{Reached, line-read, line-refused, text-first, text-long, run-column}
 use Rattle.definitions.specs.declared.Cell.{Cell}
 use Rattle.definitions.specs.declared.Cell.the-variants.{Absent, Dots}
 use Rattle.attributes.specs.Cells.{allUnnamed}
@@ -25,7 +22,7 @@ use Rattle.attributes.specs.Internal.{DotWithin}
 use Rattle.attributes.specs.declared.DotStates.{DotStates}
 use Rattle.attributes.specs.declared.DotLine.{DotLine}
 use Rattle.byte_tables.specs.Reader.{readTableLine}
-use Rattle.byte_tables.specs.Compile.{byteCount, slot, SoFar, soFar, begun, withDots, withByte, withLine, step, compiledBytes, bytesReply, cellsFrom, noCells, outcomeCells}
+use Rattle.byte_tables.specs.Compile.{byteCount, slot, SoFar, soFar, begun, withDots, withByte, withLine, step, compiledBytes}
 use Rattle.byte_tables.specs.Internal.{LineWithin, byteIn, stepped, commonTaken, byteTaken, lineTaken}
 use Rattle.byte_tables.specs.declared.Slot.{Slot}
 use Rattle.byte_tables.specs.declared.TableLine.{TableLine}
@@ -75,8 +72,12 @@ line-done slots dots count (Byte byte cell left) = byte-done slots dots (getD sl
 
 pub come-first : (text : List ℕ) (dots : DotStates) → length text ≤ textLimit → dots ≡ dotStates allUnnamed 0
     → Reached step text (compiledBytes text) 0 1 (soFar (replicate byteCount (slot Absent)) dots 0)
-unfolding compiledBytes runText
-come-first text dots short e = record { within = omega arith; count = omega arith; left = rw (e, le-ltb _ _ short) }
+unfolding compiledBytes
+come-first text dots short e = rw e (text-first step begun text short)
+
+pub long-text : (text : List ℕ) → textLimit < length text → compiledBytes text ≡ rejected TextTooLong 0 0
+unfolding compiledBytes
+long-text text h = text-long step begun text h
 
 -- the next line ends at e, is read so and asks for the slot of a byte; r is what the call on it left
 module _ (text : List ℕ) (at n : ℕ) (slots : List Slot) (dots : DotStates) (count : ℕ) (here : Reached step text (compiledBytes text) at n (soFar slots dots count))
@@ -92,23 +93,6 @@ module _ (text : List ℕ) (at n : ℕ) (slots : List Slot) (dots : DotStates) (
 
   pub taken-read : r .stopped ≡ No → Reached step text (compiledBytes text) (e + 1) (n + 1) (soFar (set slots byte (r .slot)) (r .dots) (count + r .counted))
   taken-read q = line-read step text (compiledBytes text) at n _ here e _ _ some ends does q
-
--- what the call is to ensure: its answer, the column, and the cells
-abbrev Ensured : List ℕ → Compiled → List ℕ → Type 0
-Ensured text answer cells =
-    (compiledReply answer ≡ bytesReply (compiledBytes text)) × ((compiledColumn answer ≡ outcomeColumn (compiledBytes text)) × (cells ≡ outcomeCells (compiledBytes text)))
-
-pub accepted-cells : (text : List ℕ) (at n : ℕ) (s : SoFar) {cells : List ℕ} → Reached step text (compiledBytes text) at n s → length text ≤ at
-    → cells ≡ cellsFrom (s .dots .places) (s .slots) 0 → Ensured text (Accepted (s .count)) cells
-accepted-cells text at n s here h e = rw (lines-read step text (compiledBytes text) at n s here h) (refl, (refl, e))
-
-pub refused-cells : (text : List ℕ) {refusal : Refusal} {n column : ℕ} {answer : Compiled} {cells : List ℕ}
-    → compiledBytes text ≡ rejected refusal n column → answer ≡ Refused refusal n column → cells ≡ noCells → Ensured text answer cells
-refused-cells text q e p = (rw (q, e), (rw (q, e), rw (q, p)))
-
-pub long-text : (text : List ℕ) → textLimit < length text → compiledBytes text ≡ rejected TextTooLong 0 0
-unfolding compiledBytes runText
-long-text text h = rw (lt-ltb _ _ h)
 
 step-long : (s : SoFar) (line : List ℕ) → lineLimit < length line → step s line ≡ stop LineTooLong (length line - lineLimit)
 unfolding step readTableLine openingOf

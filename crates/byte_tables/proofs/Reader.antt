@@ -1,29 +1,29 @@
 -- Each way through the reading of a line: what the calls answered, put into the definitions.
 use Prim.Native.Nat.{ℕ, _-_, _≤_, _<_}
 use mathlib.Core.Path.{_≡_, refl}
-use mathlib.Core.Bool.{Bool, true, false}
+use mathlib.Core.Bool.{true, false}
 use mathlib.Core.List.{List, [], _∷_}
 use native.Mathlib.Omega.{arith}
 use lib.ListN.{length, getD, take}
-use lib.Dec.{leb}
 use borrow.Author.Tests.{eq-eqb}
 use Rattle.basics.specs.Ascii.{ascii}
-use Rattle.basics.specs.Choice.{pick, ifCharacter}
+use Rattle.basics.specs.Choice.{pick}
 use Rattle.basics.proofs.Tests.{either}
-use Rattle.basics.specs.declared.Refusal.{Refusal}
-use Rattle.basics.specs.declared.Refusal.the-variants.{MissingOperand, BadCharacter, TrailingText}
+use Rattle.basics.specs.declared.Refusal.the-variants.{MissingOperand, TrailingText}
+use Rattle.basics.specs.declared.Maybe.{Maybe}
+use Rattle.basics.specs.declared.Maybe.the-variants.{Character}
 use Rattle.lines.specs.Lines.{withoutCR}
 use Rattle.lines.specs.Words.{wordAt, bytesOf, isMissing, sameBytes, isOver}
 use Rattle.lines.specs.declared.Word.{Word}
 use Rattle.operands.specs.Characters.{backslash}
-use Rattle.operands.specs.Operands.{dotsOperandAt, ifDotsValue}
+use Rattle.operands.specs.Operands.{wordOperand, dotsOperandAt, ifValue, ifDotsValue}
+use Rattle.operands.specs.declared.Operand.{Operand}
+use Rattle.operands.specs.declared.Operand.the-variants as O
 use Rattle.operands.specs.declared.DotsOperand.{DotsOperand}
 use Rattle.operands.specs.declared.DotsOperand.the-variants as D
 use Rattle.attributes.specs.Reader.{dotAt}
-use Rattle.byte_tables.specs.Reader.{isByteForm, writtenIn, asByte, byteAt, ifByte, fault, finished, byteLine, tableLine, readTableLine}
-use Rattle.byte_tables.specs.Internal.{ByteWithin, LineWithin}
-use Rattle.byte_tables.specs.declared.ByteOperand.{ByteOperand}
-use Rattle.byte_tables.specs.declared.ByteOperand.the-variants as B
+use Rattle.byte_tables.specs.Reader.{isByteForm, byteOf, byteAt, fault, finished, byteLine, tableLine, readTableLine}
+use Rattle.byte_tables.specs.Internal.{EightBits, ByteWithin, LineWithin}
 use Rattle.byte_tables.specs.declared.TableLine.{TableLine}
 use Rattle.byte_tables.specs.declared.TableLine.the-variants.{Common, Byte}
 
@@ -38,28 +38,21 @@ lone-backslash (b ∷ []) h e = rw (eq-eqb b backslash e)
 lone-backslash (b ∷ c ∷ r) h e = absurd (omega arith)
 
 -- the operand by the word w that a call found
-pub by-word : (line : List ℕ) (at : ℕ) (w : Word) {v : ByteOperand} → w ≡ wordAt line at
-    → v ≡ pick (isMissing w) (B.Fault MissingOperand 0)
-    (ifCharacter (writtenIn (bytesOf line w)) (B.Fault BadCharacter (length line - w .start)) (λ c. asByte c (length line - w .start) (w .end))) → v ≡ byteAt line at
+pub by-word : (line : List ℕ) (at : ℕ) (w : Word) {v : Operand} → w ≡ wordAt line at
+    → v ≡ pick (isMissing w) (O.Fault MissingOperand 0) (wordOperand (byteOf (bytesOf line w)) line w) → v ≡ byteAt line at
 unfolding byteAt
 by-word line at w e q = rw (← e) q
 
--- the position after what was read
-pub as-within : (c left after n : ℕ) {v : ByteOperand} → v ≡ asByte c left after → after ≤ n → ByteWithin v n
-as-within c left after n e h = rw e (either (λ (o : ByteOperand). ByteWithin o n) (leb c 255) h tt)
+-- what is known of a byte that is there
+pub eight-bits : (r : Maybe) (byte : ℕ) → EightBits r → r ≡ Character byte → byte < 256
+eight-bits r byte h q = rw q at h
 
-pub byte-within : (o : ByteOperand) (byte after n : ℕ) → ByteWithin o n → o ≡ B.Value byte after → after ≤ n
-byte-within o byte after n h q = rw q at h
+module _ (o : Operand) (byte after n : ℕ) (h : ByteWithin o n) (q : o ≡ O.Value byte after) where
+  pub byte-small : byte < 256
+  byte-small = (rw q at h) .0
 
--- r is what a call answered of a byte operand
-module _ {A : Type 0} (r o : ByteOperand) (bad : Refusal → ℕ → A) (good : ℕ → ℕ → A) (v : A) (e : r ≡ o) where
-  pub byte-fault : (refusal : Refusal) (left : ℕ) → r ≡ B.Fault refusal left → v ≡ bad refusal left → v ≡ ifByte o bad good
-  byte-fault refusal left q h = rw (← e, q) h
-
-  pub byte-read : (byte after : ℕ) → r ≡ B.Value byte after → v ≡ good byte after → v ≡ ifByte o bad good
-  byte-read byte after q h = rw (← e, q) h
-
-pub ruleset on-byte = (byte-fault, byte-read)
+  pub byte-within : after ≤ n
+  byte-within = (rw q at h) .1
 
 pub rest-word : (line : List ℕ) (at : ℕ) (w : Word) → w ≡ wordAt line at → fault TrailingText (length line - w .start) ≡ fault TrailingText (length line - wordAt line at .start)
 rest-word line at w e = rw e
@@ -75,10 +68,10 @@ dots-apart : (line : List ℕ) (byte left : ℕ) (o : DotsOperand) → LineWithi
 dots-apart line byte left (D.Fault refusal place) = tt
 dots-apart line byte left (D.Value cell end) = either LineWithin (isOver line end) tt tt
 
-byte-apart : (line : List ℕ) (left : ℕ) (o : ByteOperand)
-    → LineWithin (ifByte o fault (λ byte after. ifDotsValue (dotsOperandAt true line after) fault (λ cell end. finished line end (Byte byte cell left))))
-byte-apart line left (B.Fault refusal place) = tt
-byte-apart line left (B.Value byte after) = dots-apart line byte left (dotsOperandAt true line after)
+byte-apart : (line : List ℕ) (left : ℕ) (o : Operand)
+    → LineWithin (ifValue o fault (λ byte after. ifDotsValue (dotsOperandAt true line after) fault (λ cell end. finished line end (Byte byte cell left))))
+byte-apart line left (O.Fault refusal place) = tt
+byte-apart line left (O.Value byte after) = dots-apart line byte left (dotsOperandAt true line after)
 
 pub no-dot : (line : List ℕ) (at left : ℕ) (r : TableLine) → r ≡ byteLine line at left → LineWithin r
 unfolding byteLine

@@ -1,26 +1,33 @@
 -- What the code knows beyond the rules: bounds, and what a line leaves of the parts that it can change.
-use Prim.Native.Nat.{ℕ, _≤_}
+use Prim.Native.Nat.{ℕ, _≤_, _<_}
 use Rattle.basics.specs.declared.Refusal.the-variants.{AlreadyDefined}
+use Rattle.basics.specs.declared.Maybe.{Maybe}
+use Rattle.basics.specs.declared.Maybe.the-variants.{Nothing, Character}
 use Rattle.lines.specs.Texts.{Step, next, stop}
 use Rattle.lines.specs.declared.Stopped.{Stopped}
 use Rattle.lines.specs.declared.Stopped.the-variants.{No, By}
 use Rattle.definitions.specs.declared.Cell.{Cell}
 use Rattle.definitions.specs.declared.Cell.the-variants.{Absent, Dots}
+use Rattle.operands.specs.declared.Operand.{Operand}
+use Rattle.operands.specs.declared.Operand.the-variants as O
 use Rattle.attributes.specs.Compile.{withDot}
 use Rattle.attributes.specs.Internal.{DotWithin}
 use Rattle.attributes.specs.declared.DotStates.{DotStates}
 use Rattle.byte_tables.specs.Compile.{slot}
-use Rattle.byte_tables.specs.declared.ByteOperand.{ByteOperand}
-use Rattle.byte_tables.specs.declared.ByteOperand.the-variants as B
 use Rattle.byte_tables.specs.declared.TableLine.{TableLine}
 use Rattle.byte_tables.specs.declared.TableLine.the-variants.{Common, Byte}
 use Rattle.byte_tables.specs.declared.Slot.{Slot}
 use Rattle.byte_tables.specs.declared.Stepped.{Stepped}
 
--- a position that is answered lies within so many bytes
-abbrev pub ByteWithin : ByteOperand → ℕ → Type 0
-ByteWithin (B.Fault refusal left) n = Unit {0}
-ByteWithin (B.Value byte after) n = after ≤ n
+-- a byte has eight bits
+abbrev pub EightBits : Maybe → Type 0
+EightBits Nothing = Unit {0}
+EightBits (Character byte) = byte < 256
+
+-- and where one is read, the position after it lies within so many bytes
+abbrev pub ByteWithin : Operand → ℕ → Type 0
+ByteWithin (O.Fault refusal left) n = Unit {0}
+ByteWithin (O.Value byte after) n = (byte < 256) × (after ≤ n)
 
 -- a dot that is read is one of eight
 abbrev pub LineWithin : TableLine → Type 0

@@ -8,19 +8,18 @@ use lib.Dec.{eqb, leb}
 use Rattle.basics.specs.Ascii.{ascii}
 use Rattle.basics.specs.Choice.{pick, ifCharacter}
 use Rattle.basics.specs.declared.Refusal.{Refusal}
-use Rattle.basics.specs.declared.Refusal.the-variants.{MissingOperand, BadCharacter, TrailingText}
+use Rattle.basics.specs.declared.Refusal.the-variants.{MissingOperand, TrailingText}
 use Rattle.basics.specs.declared.Maybe.{Maybe}
-use Rattle.basics.specs.declared.Maybe.the-variants.{Nothing}
+use Rattle.basics.specs.declared.Maybe.the-variants.{Nothing, Character}
 use Rattle.lines.specs.declared.Word.{Word}
 use Rattle.lines.specs.Words.{wordAt, bytesOf, isMissing, sameBytes, isOver}
 use Rattle.lines.specs.Texts.{openingOf, ifDirective}
 use Rattle.operands.specs.Characters.{backslash, characterOf}
-use Rattle.operands.specs.Operands.{dotsOperandAt, ifDotsValue}
+use Rattle.operands.specs.Operands.{wordOperand, dotsOperandAt, ifValue, ifDotsValue}
+use Rattle.operands.specs.declared.Operand.{Operand}
+use Rattle.operands.specs.declared.Operand.the-variants as O
 use Rattle.attributes.specs.Reader.{dotAt}
-use Rattle.attributes.specs.declared.DotLine.{DotLine}
 use Rattle.attributes.specs.declared.DotLine.the-variants as D
-use Rattle.byte_tables.specs.declared.ByteOperand.{ByteOperand}
-use Rattle.byte_tables.specs.declared.ByteOperand.the-variants as B
 use Rattle.byte_tables.specs.declared.TableLine.{TableLine}
 use Rattle.byte_tables.specs.declared.TableLine.the-variants.{Common, Byte}
 
@@ -28,26 +27,19 @@ use Rattle.byte_tables.specs.declared.TableLine.the-variants.{Common, By
 abbrev pub isByteForm : List ℕ → Bool
 isByteForm w = not (eqb (getD w 0 0) backslash) || (eqb (getD w 1 0) backslash || (eqb (getD w 1 0) 120 || eqb (getD w 1 0) 88))
 
--- the character that a whole word writes
-unfoldable pub writtenIn : List ℕ → Maybe
-writtenIn w = pick (isByteForm w) (characterOf w) Nothing
+-- the byte that the local set has for a character: it has those up to U+00FF, each as the byte of its number
+abbrev pub ownByte : ℕ → Maybe
+ownByte c = pick (leb c 255) (Character c) Nothing
 
--- a character as its byte: the local set has those up to U+00FF
-abbrev pub asByte : ℕ → ℕ → ℕ → ByteOperand
-asByte c left after = pick (leb c 255) (B.Value c after) (B.Fault BadCharacter left)
+-- the byte of a whole word
+unfoldable pub byteOf : List ℕ → Maybe
+byteOf w = pick (isByteForm w) (ifCharacter (characterOf w) Nothing ownByte) Nothing
 
--- the next word as a byte operand: none is 6, at the line's end; a bad one 7, at its first byte
-unfoldable pub byteAt : List ℕ → ℕ → ByteOperand
+-- the next word as a byte operand
+unfoldable pub byteAt : List ℕ → ℕ → Operand
 byteAt line at =
     let w : Word = wordAt line at in
-    let left : ℕ = length line - w .start in
-    pick (isMissing w) (B.Fault MissingOperand 0)
-    (ifCharacter (writtenIn (bytesOf line w)) (B.Fault BadCharacter left) (λ c. asByte c left (w .end)))
-
--- what follows from a byte operand, and from its fault
-abbrev pub ifByte : {A : Type 0} → ByteOperand → (Refusal → ℕ → A) → (ℕ → ℕ → A) → A
-ifByte (B.Fault refusal left) bad good = bad refusal left
-ifByte (B.Value byte after) bad good = good byte after
+    pick (isMissing w) (O.Fault MissingOperand 0) (wordOperand (byteOf (bytesOf line w)) line w)
 
 abbrev pub fault : Refusal → ℕ → TableLine
 fault refusal left = Common (D.Fault refusal left)
@@ -59,7 +51,7 @@ finished line at read = pick (isOver line at) read (fault TrailingText (length l
 -- a byte line from its byte operand on
 unfoldable pub byteLine : List ℕ → ℕ → ℕ → TableLine
 byteLine line at left =
-    ifByte (byteAt line at) fault (λ byte after.
+    ifValue (byteAt line at) fault (λ byte after.
     ifDotsValue (dotsOperandAt true line after) fault (λ cell end.
     finished line end (Byte byte cell left)))
 

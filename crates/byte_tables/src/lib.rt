@@ -10,23 +10,17 @@ use lines::Opening;
 use lines::Stopped;
 use lines::TEXT_LIMIT;
 use operands::DotsOperand;
+use operands::Operand;
 ghost use mathlib.Core.Path.{_≡_};
 ghost use Prim.Native.Nat.{_+_, _≤_, _<_};
 ghost use lib.ListN.{length};
-ghost use Rattle.byte_tables.specs.Reader.{isByteForm, writtenIn, asByte, byteAt, finished, byteLine, tableLine, readTableLine};
+ghost use Rattle.byte_tables.specs.Reader.{isByteForm, ownByte, byteOf, byteAt, finished, byteLine, tableLine, readTableLine};
 ghost use Rattle.byte_tables.specs.Compile.{compiledBytes, bytesReply, shownBy, cellsFrom, noCells, outcomeCells};
-ghost use Rattle.byte_tables.specs.Internal.{ByteWithin, LineWithin, byteIn, commonTaken, byteTaken, lineTaken};
+ghost use Rattle.byte_tables.specs.Internal.{EightBits, ByteWithin, LineWithin, byteIn, commonTaken, byteTaken, lineTaken};
 ghost use Rattle.attributes.specs.Compile.{withDot};
 ghost use Rattle.attributes.specs.Internal.{DotWithin};
 ghost use Rattle.lines.specs.Lines.{withoutCR};
 ghost use Rattle.lines.specs.Texts.{textLimit, outcomeColumn, compiledReply, compiledColumn};
-
-// A byte operand: the byte and the position after it; or its fault, and the number of bytes from the fault's place to the
-// line's end.
-pub enum ByteOperand {
-    Fault(Refusal, usize),
-    Value(u8, usize),
-}
 
 // A line as read: what an attributes table has too, or a byte with its cell and the number of bytes from the line's first
 // word to its end.
@@ -77,28 +71,33 @@ fn is_byte_form(w: &[u8]) -> bool
     w[1] == b'X'
 }
 
-// The character that a whole word writes.
-fn written_in(w: &[u8]) -> Maybe
-    ensures { λ r. ⌜ r ≡ writtenIn (now (w .entry)) ⌝ }
+// The byte that the local set has for a character.
+fn own_byte(c: u32) -> Maybe
+    ensures { λ r. ⌜ r ≡ ownByte c ⌝ }
+    ensures { λ r. ⌜ EightBits r ⌝ }
 {
-    if is_byte_form(w) {
-        return operands::character_of(w);
+    if c <= 255 {
+        return Maybe::Character(c);
     }
     Maybe::Nothing
 }
 
-// A character as its byte in the local set.
-fn as_byte(c: u32, left: usize, after: usize) -> ByteOperand
-    ensures { λ r. ⌜ r ≡ asByte c left after ⌝ }
+// The byte of a whole word.
+fn byte_of(w: &[u8]) -> Maybe
+    ensures { λ r. ⌜ r ≡ byteOf (now (w .entry)) ⌝ }
+    ensures { λ r. ⌜ EightBits r ⌝ }
 {
-    if c <= 255 {
-        return ByteOperand::Value(c as u8, after);
+    if !is_byte_form(w) {
+        return Maybe::Nothing;
     }
-    ByteOperand::Fault(Refusal::BadCharacter, left)
+    match operands::character_of(w) {
+        Maybe::Nothing => Maybe::Nothing,
+        Maybe::Character(c) => own_byte(c),
+    }
 }
 
 // The next word from `at` on as a byte operand.
-fn byte_at(line: &[u8], at: usize) -> ByteOperand
+fn byte_at(line: &[u8], at: usize) -> Operand
     requires { ⌜ at ≤ length (now line) ⌝ }
     ensures { λ r. ⌜ r ≡ byteAt (now (line .entry)) at ⌝ }
     ensures { λ r. ⌜ ByteWithin r (length (now (line .entry))) ⌝ }
@@ -107,12 +106,11 @@ fn byte_at(line: &[u8], at: usize) -> ByteOperand
     let start = w.start;
     let end = w.end;
     if start == end {
-        return ByteOperand::Fault(Refusal::MissingOperand, 0);
+        return Operand::Fault(Refusal::MissingOperand, 0);
     }
-    let left = line.len() - start;
-    match written_in(&line[start..end]) {
-        Maybe::Nothing => ByteOperand::Fault(Refusal::BadCharacter, left),
-        Maybe::Character(c) => as_byte(c, left, end),
+    match byte_of(&line[start..end]) {
+        Maybe::Nothing => Operand::Fault(Refusal::BadCharacter, line.len() - start),
+        Maybe::Character(byte) => Operand::Value(byte, end),
     }
 }
 
@@ -134,10 +132,14 @@ fn byte_line(line: &[u8], at: usize, left: usize) -> TableLine
     ensures { λ r. ⌜ r ≡ byteLine (now (line .entry)) at left ⌝ }
 {
     match byte_at(line, at) {
-        ByteOperand::Fault(refusal, place) => TableLine::Common(DotLine::Fault(refusal, place)),
-        ByteOperand::Value(byte, after) => match operands::dots_operand_at(line, after, true) {
+        Operand::Fault(refusal, place) => TableLine::Common(DotLine::Fault(refusal, place)),
+        Operand::Value(byte, after) => match operands::dots_operand_at(line, after, true) {
             DotsOperand::Fault(refusal, place) => TableLine::Common(DotLine::Fault(refusal, place)),
-            DotsOperand::Value(cell, end) => finish(line, end, TableLine::Byte(byte, cell, left)),
+            DotsOperand::Value(cell, end) => finish(
+                line,
+                end,
+                TableLine::Byte(byte as u8, cell, left),
+            ),
         },
     }
 }

@@ -4,7 +4,8 @@ use mathlib.Core.Bool.{true}
 use Rattle.attributes.specs.Cells.{cellFrom}
 use Rattle.attributes.specs.Compile.{readDotLine, dotStep, compiledAttributes}
 use Rattle.attributes.specs.Reader.{backgroundState, namedState, stateOf, fixedState, stateIn, stateAt, dotAt, dotLine}
-use Rattle.byte_tables.specs.Reader.{writtenIn, byteAt, byteLine, tableLine, readTableLine}
+use Rattle.byte_tables.specs.Reader.{byteAt, byteLine, tableLine, readTableLine}
+use Rattle.byte_tables.specs.Reader as R
 use Rattle.byte_tables.specs.Compile as B
 use Rattle.byte_tables.specs.Compile.{compiledBytes, cellsFrom}
 use Rattle.editions.specs.Editions.{editionReply, editionColumn, editionCells}
@@ -34,7 +35,7 @@ use Rattle.unicode.specs.Utf8.{afterFirst, afterFurther, utf8From}
 
 -- all tables, since they are computed by the same definitions
 computed : (everyOne marked ≡ true) × (everyOne workedBlocks ≡ true) × (everyOne workedColumns ≡ true) × (everyOne workedEditions ≡ true)
-unfolding cellFrom readDotLine dotStep compiledAttributes backgroundState namedState stateOf fixedState stateIn stateAt dotAt dotLine writtenIn byteAt byteLine tableLine readTableLine B.step compiledBytes cellsFrom editionReply editionColumn editionCells aroundOf blockLine readFirst readLine lineEffect step compiled compileReply compileColumn compileWords hasGlyph hasCell conditionOf directiveOf finished dotsLine aliasLine conditionAt glyphCondition cellCondition frontOf ifHolds readFrom find explicit aliasOf walkWithin walk aliases typedIn verdictOf wordsFor comesOut everyOne linesOf withoutCR openingOf runLines runText isBlank firstFrom firstAt wordAt sameBytes isOver lookupReply firstNoScalar pagePlan candidates choose rulesFrom3 lookup digitOf withDigit digitsFrom plainOf shortOf radixOf wordNumber characterOf byteOf raiseBy raise raiseInside endsAt digitsAt insideAt cellAt dotsAt characterAt dotsOperandAt zeroFrom checkFrom checkOf lentTable wordsOf isSoundWord meaningOf definitions filledFrom localOf standsFor afterFirst afterFurther utf8From
+unfolding cellFrom readDotLine dotStep compiledAttributes backgroundState namedState stateOf fixedState stateIn stateAt dotAt dotLine R.byteOf byteAt byteLine tableLine readTableLine B.step compiledBytes cellsFrom editionReply editionColumn editionCells aroundOf blockLine readFirst readLine lineEffect step compiled compileReply compileColumn compileWords hasGlyph hasCell conditionOf directiveOf finished dotsLine aliasLine conditionAt glyphCondition cellCondition frontOf ifHolds readFrom find explicit aliasOf walkWithin walk aliases typedIn verdictOf wordsFor comesOut everyOne linesOf withoutCR openingOf runLines runText isBlank firstFrom firstAt wordAt sameBytes isOver lookupReply firstNoScalar pagePlan candidates choose rulesFrom3 lookup digitOf withDigit digitsFrom plainOf shortOf radixOf wordNumber characterOf byteOf raiseBy raise raiseInside endsAt digitsAt insideAt cellAt dotsAt characterAt dotsOperandAt zeroFrom checkFrom checkOf lentTable wordsOf isSoundWord meaningOf definitions filledFrom localOf standsFor afterFirst afterFurther utf8From
 computed = (refl, refl, refl, refl)
 
 pub marked-cases : everyOne marked ≡ true

@@ -9,14 +9,16 @@ use native.Mathlib.Omega.{arith}
 use lib.Dec.{eqb, ltb}
 use lib.ListN.{length, take, drop, length-drop, drop-of-length-le}
 use lib.Seq.{drop-drop}
-use borrow.Author.Tests.{ltb-true, ltb-false}
+use borrow.Author.Tests.{ltb-true, ltb-false, lt-ltb, le-ltb}
 use Rattle.basics.specs.Choice.{pick}
 use Rattle.basics.proofs.Tests.{by-cases, either}
 use Rattle.basics.specs.declared.Refusal.{Refusal}
-use Rattle.basics.specs.declared.Refusal.the-variants.{LineTooLong}
+use Rattle.basics.specs.declared.Refusal.the-variants.{TextTooLong, LineTooLong}
 use Rattle.lines.specs.Lines.{LF, withByte, linesOf, withoutCR, isEnded}
-use Rattle.lines.specs.Texts.{textLimit, lineLimit, Step, next, stop, columnOf, Outcome, accepted, rejected, onStep, runLines, runText, outcomeColumn}
+use Rattle.lines.specs.Texts.{textLimit, lineLimit, Step, next, stop, columnOf, Outcome, accepted, rejected, onStep, runLines, runText, outcomeReply, outcomeColumn, compiledReply, compiledColumn}
 use Rattle.lines.specs.Internal.{toLF, LineEnd, leaves}
+use Rattle.lines.specs.declared.Compiled.{Compiled}
+use Rattle.lines.specs.declared.Compiled.the-variants.{Accepted, Refused}
 use Rattle.lines.specs.declared.Stopped.{Stopped}
 use Rattle.lines.specs.declared.Stopped.the-variants.{No, By}
 
@@ -102,6 +104,28 @@ module _ {S : Type 0} (step : S → List ℕ → Step S) (text : List ℕ) (whol
     pub line-read : o ≡ No → Reached step text whole (e + 1) (n + 1) s′
     unfolding runLines
     line-read q = record { within = omega arith; count = omega arith; left = here .left ∙ rw (line-next text at e ends some, ← does, q) }
+
+-- before the first line; and a text that is too long, of which none is read
+module _ {S : Type 0} (step : S → List ℕ → Step S) (s : S) (text : List ℕ) where
+  pub text-first : length text ≤ textLimit → Reached step text (runText step s text) 0 1 s
+  unfolding runText
+  text-first short = record { within = omega arith; count = omega arith; left = rw (le-ltb _ _ short) }
+
+  pub text-long : textLimit < length text → runText step s text ≡ rejected TextTooLong 0 0
+  unfolding runText
+  text-long h = rw (lt-ltb _ _ h)
+
+-- a call that hands its table back by value: its answer, the column, and the table, by what the text gives
+module _ {S A : Type 0} (count : S → ℕ) (table : Outcome S → A) where
+  abbrev pub Ensured : Outcome S → Compiled → A → Type 0
+  Ensured outcome answer handed = (compiledReply answer ≡ outcomeReply count outcome) × ((compiledColumn answer ≡ outcomeColumn outcome) × (handed ≡ table outcome))
+
+  pub text-accepted : (outcome : Outcome S) (s : S) {handed : A} → outcome ≡ accepted s → handed ≡ table (accepted s) → Ensured outcome (Accepted (count s)) handed
+  text-accepted outcome s q e = rw q (refl, (refl, e))
+
+  pub text-refused : (outcome : Outcome S) {refusal : Refusal} {n column : ℕ} {answer : Compiled} {handed : A}
+      → outcome ≡ rejected refusal n column → answer ≡ Refused refusal n column → handed ≡ table (rejected refusal n column) → Ensured outcome answer handed
+  text-refused outcome q e p = (rw (q, e), (rw (q, e), rw q p))
 
 -- ---- columns
 

@@ -6,6 +6,7 @@ use lib.ListN.{length}
 use Rattle.basics.specs.Choice.{pick, ifCharacter}
 use Rattle.basics.specs.declared.Refusal.{Refusal}
 use Rattle.basics.specs.declared.Refusal.the-variants.{MissingOperand, BadCharacter, BadDots}
+use Rattle.basics.specs.declared.Maybe.{Maybe}
 use Rattle.lines.specs.declared.Word.{Word}
 use Rattle.lines.specs.Words.{wordAt, bytesOf, isMissing}
 use Rattle.operands.specs.Characters.{characterOf, byteOf}
@@ -17,17 +18,15 @@ use Rattle.operands.specs.declared.DotsOperand.the-variants as D
 use Rattle.operands.specs.declared.CellRead.{CellRead}
 use Rattle.operands.specs.declared.CellRead.the-variants.{Bad, Read}
 
--- the next word as a character operand, or, where `byte` holds, as a byte operand
-abbrev pub wordOperand : Bool → List ℕ → Word → Operand
-wordOperand byte line w =
-    ifCharacter (pick byte (byteOf (bytesOf line w)) (characterOf (bytesOf line w)))
-    (O.Fault BadCharacter (length line - w .start))
-    (λ c. O.Value c (w .end))
+-- a word with what it stands for
+abbrev pub wordOperand : Maybe → List ℕ → Word → Operand
+wordOperand value line w = ifCharacter value (O.Fault BadCharacter (length line - w .start)) (λ c. O.Value c (w .end))
 
+-- the next word as a character operand, or, where `byte` holds, as a byte operand
 unfoldable pub characterAt : Bool → List ℕ → ℕ → Operand
 characterAt byte line at =
     let w : Word = wordAt line at in
-    pick (isMissing w) (O.Fault MissingOperand 0) (wordOperand byte line w)
+    pick (isMissing w) (O.Fault MissingOperand 0) (wordOperand (pick byte (byteOf (bytesOf line w)) (characterOf (bytesOf line w))) line w)
 
 abbrev pub dotsFault : CellRead → ℕ → DotsOperand
 dotsFault Bad left = D.Fault BadDots left

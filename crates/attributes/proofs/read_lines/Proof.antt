@@ -1,7 +1,9 @@
 use borrow.Author.Needs.{needs}
-use Rattle.attributes.proofs.Compile.{come-first, no-lines, refused-places, accepted-places}
-use Rattle.lines.proofs.Texts.{Reached, line-read, line-refused}
-use Rattle.attributes.specs.Compile.{dotStep, compiledAttributes}
+use Rattle.attributes.proofs.Compile.{come-first, no-lines}
+use Rattle.lines.proofs.Texts.{Reached, lines-read, line-read, line-refused, text-accepted, text-refused}
+use Rattle.attributes.specs.Compile.{dotStep, compiledAttributes, outcomePlaces}
+use Rattle.attributes.specs.declared.DotStates.{DotStates}
+use mathlib.Core.Path.{refl}
 use lib.ListN.{length}
 use Prim.Native.Nat.{_+_, _-_, _≤_}
 use Rattle.attributes.proofs.read_lines.Statement.{statement}
@@ -30,10 +32,10 @@ read-lines-spec =
     (λ c. search needs)
     (λ c κs. search needs)
     (λ c κs. search needs)
-    (λ c. refused-places _ (search line-refused) (c .refused-table .ensures .0) (c .refused-table .ensures .1))
+    (λ c. text-refused (λ (f : DotStates). f .lines) outcomePlaces (compiledAttributes _) (search line-refused) (c .refused-table .ensures .0) (c .refused-table .ensures .1))
     (λ c. search needs)
     (λ c. search needs)
     (λ c. search needs)
     (λ c. search needs)
     (λ c. (search needs, search line-read))
-    (λ c. accepted-places _ _ _ _ (c .before .before .loop .inv .1) (search needs)))
+    (λ c. text-accepted (λ (f : DotStates). f .lines) outcomePlaces (compiledAttributes _) _ (lines-read _ _ _ _ _ _ (c .before .before .loop .inv .1) (search needs)) refl))

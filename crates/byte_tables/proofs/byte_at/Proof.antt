@@ -1,5 +1,5 @@
-use Rattle.byte_tables.proofs.Reader.{by-word, as-within}
 use Rattle.basics.proofs.Tests.{tests, on-character}
+use Rattle.byte_tables.proofs.Reader.{by-word, eight-bits}
 use borrow.Author.Needs.{needs}
 use Rattle.byte_tables.proofs.byte_at.Statement.{statement}
 use Rattle.byte_tables.proofs.byte_at.Tie as tie
@@ -13,10 +13,9 @@ byte-at-spec =
     (λ c. search needs)
     (λ c. search needs)
     (λ c. search needs)
-    (λ c. search needs)
     (λ c κs. search needs)
     (λ c. search needs)
     (λ c. search needs)
-    (λ c κs. search needs)
+    (λ c. search needs)
     (λ c. (search (by-word, tests, on-character), search))
-    (λ c. (search (by-word, tests, on-character), search as-within)))
+    (λ c. (search (by-word, tests, on-character), (search eight-bits, search needs))))

@@ -1,6 +1,6 @@
-use Rattle.operands.proofs.Operands.{dots-within, on-dots-value}
+use Rattle.operands.proofs.Operands.{dots-within, on-value, on-dots-value}
 use Rattle.byte_tables.specs.Reader.{byteLine}
-use Rattle.byte_tables.proofs.Reader.{byte-within, on-byte}
+use Rattle.byte_tables.proofs.Reader.{byte-small, byte-within}
 use borrow.Author.Needs.{needs}
 use Rattle.byte_tables.proofs.byte_line.Statement.{statement}
 use Rattle.byte_tables.proofs.byte_line.Tie as tie
@@ -16,7 +16,8 @@ byte-line-spec =
     (λ c κs. search byte-within)
     (λ c. search needs)
     (λ c. search needs)
+    (λ c. search (byte-small, needs))
     (λ c κs. search dots-within)
-    (λ c. search on-byte)
-    (λ c. search (on-byte, on-dots-value))
-    (λ c. search (on-byte, on-dots-value)))
+    (λ c. search on-value)
+    (λ c. search (on-value, on-dots-value))
+    (λ c. search (on-value, on-dots-value)))

@@ -1,4 +1,6 @@
-use Rattle.byte_tables.proofs.Compile.{refused-cells, long-text}
+use Rattle.lines.proofs.Texts.{text-refused}
+use Rattle.byte_tables.specs.Compile.{SoFar, compiledBytes, outcomeCells}
+use Rattle.byte_tables.proofs.Compile.{long-text}
 use borrow.Author.Needs.{needs}
 use Rattle.byte_tables.proofs.compile_bytes.Statement.{statement}
 use Rattle.byte_tables.proofs.compile_bytes.Tie as tie
@@ -8,6 +10,6 @@ compile-bytes-spec =
     tie.close
     (tie.spec
     (λ c κs. search needs)
-    (λ c. refused-cells _ (search long-text) (c .without-cells .ensures .0) (c .without-cells .ensures .1))
+    (λ c. text-refused (λ (s : SoFar). s .count) outcomeCells (compiledBytes _) (search long-text) (c .without-cells .ensures .0) (c .without-cells .ensures .1))
     (λ c κs. search needs)
     (λ c. search needs))

@@ -1,9 +1,9 @@
 use Prim.Native.Nat.{_+_, _-_, _≤_}
 use lib.ListN.{length}
-use Rattle.lines.proofs.Texts.{Reached}
-use Rattle.byte_tables.specs.Compile.{soFar, step, compiledBytes}
+use Rattle.lines.proofs.Texts.{Reached, lines-read, text-accepted, text-refused}
+use Rattle.byte_tables.specs.Compile.{SoFar, soFar, step, compiledBytes, outcomeCells}
 use Rattle.attributes.proofs.Compile.{no-lines}
-use Rattle.byte_tables.proofs.Compile.{come-first, taken-refused, taken-read, accepted-cells, refused-cells}
+use Rattle.byte_tables.proofs.Compile.{come-first, taken-refused, taken-read}
 use borrow.Author.Needs.{needs}
 use Rattle.byte_tables.proofs.read_lines.Statement.{statement}
 use Rattle.byte_tables.proofs.read_lines.Tie as tie
@@ -37,7 +37,7 @@ read-lines-spec =
     (λ c. search needs)
     (λ c κs. search needs)
     (λ c κs. search needs)
-    (λ c. refused-cells _ (search taken-refused) (c .without-cells .ensures .0) (c .without-cells .ensures .1))
+    (λ c. text-refused (λ (s : SoFar). s .count) outcomeCells (compiledBytes _) (search taken-refused) (c .without-cells .ensures .0) (c .without-cells .ensures .1))
     (λ c. search needs)
     (λ c. search needs)
     (λ c. search needs)
@@ -47,4 +47,4 @@ read-lines-spec =
     (λ c. search needs)
     (λ c. (search needs, search needs, search taken-read))
     (λ c κs. search needs)
-    (λ c. accepted-cells _ _ _ _ (c .before .before .before .loop .inv .2) (search needs) (c .cells-of .ensures)))
+    (λ c. text-accepted (λ (s : SoFar). s .count) outcomeCells (compiledBytes _) _ (lines-read _ _ _ _ _ _ (c .before .before .before .loop .inv .2) (search needs)) (c .cells-of .ensures)))
