@@ -1,5 +1,5 @@
-//! Safe calls over Heathdapple, a proved reference for braille terminals: text and attributes tables, the cell that a
-//! character shows, the character that a cell types.
+//! Safe calls over Heathdapple, a proved reference for braille terminals: text tables, attributes tables and old byte
+//! tables, the cell that a character shows, the character that a cell types.
 //!
 //! [`Table`] owns a compiled table:
 //!
@@ -15,8 +15,10 @@
 //! cannot use:
 //!
 //! ```
-//! let mut words = [0; heathdapple::TABLE_WORDS];
-//! let refusal = heathdapple::compile(b"char a 1\n\nifCell 1 glyph a 2\n", &mut words).unwrap_err();
+//! use heathdapple::{compile, TABLE_WORDS, TEXT_EDITION};
+//!
+//! let mut words = [0; TABLE_WORDS];
+//! let refusal = compile(TEXT_EDITION, b"char a 1\n\nifCell 1 glyph a 2\n", &mut words).unwrap_err();
 //! assert_eq!((refusal.number, refusal.place, refusal.column), (11, 3, 10));
 //! assert_eq!(refusal.to_string(), "line 3, column 10: character or dot already defined (refusal 11)");
 //! ```
@@ -40,8 +42,15 @@ pub use table::Table;
 /// The words of a compiled table: two for each of 1,024 definitions.
 pub const TABLE_WORDS: usize = 2048;
 
-/// The cells of eight dots, and the VGA attribute bytes: the least length for [`entries`] and [`attribute_cells`].
+/// The cells of eight dots, and the bytes: the least length for [`entries`], [`attribute_cells`] and [`byte_cells`].
 pub const CELLS: usize = 256;
+
+/// The edition of old byte tables, for [`compile`]. Their lines give cells to single bytes and states to the dots of all
+/// others.
+pub const BYTE_EDITION: u32 = 1;
+
+/// The edition of text tables, for [`compile`].
+pub const TEXT_EDITION: u32 = 2;
 
 /// What a lookup shows.
 #[derive(Clone, Copy, Debug, PartialEq, Eq)]
@@ -74,12 +83,37 @@ fn value(code: u64, most: u32) -> Result<u32, Refusal> {
     }
 }
 
-/// Compiles a text table into the first 2,048 words; answers the count of definitions.
+/// Compiles a text by its edition. A refusal has its line and its column.
 ///
-/// A refusal has its line and its column. It zeroes the 2,048 words, but for 1 and 2, which touch nothing. Words beyond
-/// are never touched.
-pub fn compile(text: &[u8], words: &mut [u32]) -> Result<u32, Refusal> {
-    value(library::compile(text, words), TABLE_WORDS as u32 / 2)
+/// [`TEXT_EDITION`]: a text table, into the first 2,048 words; answers the count of definitions. A refusal zeroes the 2,048
+/// words, but for 1 and 2, which touch nothing. Words beyond are never touched.
+///
+/// [`BYTE_EDITION`]: an old byte table; answers the count of its byte lines. The words are neither touched nor tested and
+/// may be empty; [`byte_cells`] gives the cells.
+///
+/// Any other edition is 20, before all other refusals, and touches nothing.
+///
+/// ```
+/// use heathdapple::{compile, BYTE_EDITION};
+///
+/// assert_eq!(compile(BYTE_EDITION, b"byte a 1\nb 12\ndot 8 off\n", &mut []), Ok(2));
+/// assert_eq!(compile(3, b"", &mut []).unwrap_err().to_string(), "edition neither 1 nor 2 (refusal 20)");
+/// ```
+pub fn compile(edition: u32, text: &[u8], words: &mut [u32]) -> Result<u32, Refusal> {
+    value(library::compile(edition, text, words), TABLE_WORDS as u32 / 2)
+}
+
+/// The cells of all 256 bytes by an old byte table's text, in the first 256 bytes; answers the count of byte lines.
+///
+/// Bytes past them stay. A refused text makes all 256 cells 255; only 2, for a buffer that is too short, touches nothing.
+///
+/// ```
+/// let mut cells = [0; heathdapple::CELLS];
+/// assert_eq!(heathdapple::byte_cells(b"byte a 1\n\\x20 0\ndot 8 =blink\n", &mut cells), Ok(2));
+/// assert_eq!([b'a', b' ', b'b', 0xE9].map(|byte| cells[usize::from(byte)]), [0x01, 0x00, 0x7F, 0xFF]);
+/// ```
+pub fn byte_cells(text: &[u8], cells: &mut [u8]) -> Result<u32, Refusal> {
+    value(library::byte_cells(text, cells), CELLS as u32)
 }
 
 /// Looks a character up on a compiled table.
@@ -183,7 +217,7 @@ mod tests {
     #[test]
     fn calls_over_lent_memory() {
         let mut words = [7; TABLE_WORDS + 1];
-        assert_eq!(compile(b"char a 1\nglyph A 17\n", &mut words), Ok(2));
+        assert_eq!(compile(TEXT_EDITION, b"char a 1\nglyph A 17\n", &mut words), Ok(2));
         assert_eq!(words[..5], [0x61, 0x0100_0001, 0x41, 0x0200_0041, 0]);
         assert_eq!(words[TABLE_WORDS], 7);
         assert_eq!(look_up(&words, 0xF0C5), Ok(Shown { cell: 0x41, rule: 21, links: 0 }));
@@ -204,18 +238,52 @@ mod tests {
     #[test]
     fn columns() {
         let mut words = [7; TABLE_WORDS];
+        let refused = |number, place, column| Err(Refusal { number, place, column });
         let text = "char é 1\r\nifGlyph é char € (1 9)\r\n";
-        assert_eq!(compile(text.as_bytes(), &mut words), Err(Refusal { number: 8, place: 2, column: 21 }));
+        assert_eq!(compile(TEXT_EDITION, text.as_bytes(), &mut words), refused(8, 2, 21));
         assert_eq!(words, [0; TABLE_WORDS]);
-        assert_eq!(compile(b"ifGlyph a \n", &mut words), Err(Refusal { number: 18, place: 1, column: 0 }));
-        assert_eq!(compile(b"x", &mut words[1..]), Err(Refusal { number: 2, place: 0, column: 0 }));
-        assert_eq!(compile(&[b'\n'; 65_537], &mut words), Err(Refusal { number: 1, place: 0, column: 0 }));
+        assert_eq!(compile(TEXT_EDITION, b"ifGlyph a \n", &mut words), refused(18, 1, 0));
+        assert_eq!(compile(TEXT_EDITION, b"x", &mut words[1..]), refused(2, 0, 0));
+        assert_eq!(compile(TEXT_EDITION, &[b'\n'; 65_537], &mut words), refused(1, 0, 0));
+    }
+
+    #[test]
+    fn byte_tables() {
+        let refused = |number, place, column| Err(Refusal { number, place, column });
+        let text = b"byte a 1\nb (1 2)\n\\x20 0\ndot 8 off\ndot 1 =fg-blue\n";
+        let mut words = [7; TABLE_WORDS];
+        assert_eq!(compile(BYTE_EDITION, text, &mut words), Ok(3));
+        assert_eq!(compile(BYTE_EDITION, b"byte a", &mut words), refused(6, 1, 7));
+        assert_eq!(words, [7; TABLE_WORDS]);
+        assert_eq!(compile(BYTE_EDITION, b"", &mut []), Ok(0));
+        let mut cells = [9; CELLS + 1];
+        assert_eq!(byte_cells(text, &mut cells), Ok(3));
+        assert_eq!(cells[usize::from(b'`')..=usize::from(b'd')], [0x7E, 0x01, 0x03, 0x7F, 0x7E]);
+        assert_eq!((cells[0x20], cells[0xFF], cells[CELLS]), (0x00, 0x7F, 9));
+        assert_eq!(byte_cells(b"a 1\n \\x61 2\n", &mut cells), refused(11, 2, 2));
+        assert_eq!((cells[..CELLS] == [255; CELLS], cells[CELLS]), (true, 9));
+        assert_eq!(byte_cells(b"", &mut [9; CELLS - 1]), refused(2, 0, 0));
+        let all: String = (0..=255).map(|byte| format!("\\x{byte:02x} 0\n")).collect();
+        assert_eq!(byte_cells(all.as_bytes(), &mut cells), Ok(256));
+        assert_eq!(cells[..CELLS], [0; CELLS]);
+    }
+
+    #[test]
+    fn editions() {
+        let mut words = [7; TABLE_WORDS];
+        for edition in [0, 3, u32::MAX] {
+            let refused = Err(Refusal { number: 20, place: 0, column: 0 });
+            assert_eq!(compile(edition, b"char a 1\n", &mut words), refused);
+            assert_eq!(compile(edition, b"x", &mut words[1..]), refused);
+            assert_eq!(compile(edition, &[b'\n'; 65_537], &mut []), refused);
+        }
+        assert_eq!(words, [7; TABLE_WORDS]);
     }
 
     #[test]
     fn windows_of_a_page() {
         let mut words = [0; TABLE_WORDS];
-        assert_eq!(compile(b"char a 1\nchar b 12\n", &mut words), Ok(2));
+        assert_eq!(compile(TEXT_EDITION, b"char a 1\nchar b 12\n", &mut words), Ok(2));
         let page = [0x61, 0x62, 0x2809];
         let shown = |page: &[u32], parts: &[(usize, usize)], length: usize| {
             let list: Vec<Window> = parts.iter().map(|&(start, width)| Window { start, width }).collect();

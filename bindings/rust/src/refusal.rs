@@ -9,7 +9,7 @@ use std::fmt;
 /// ```
 #[derive(Clone, Copy, Debug, PartialEq, Eq)]
 pub struct Refusal {
-    /// 1 to 19; 0 for an answer that the call never gives.
+    /// 1 to 20; 0 for an answer that the call never gives.
     pub number: u32,
     /// A line from 1, or a pair of words, a character or a window of a call's list from 0; 2^32 - 1 also for a greater
     /// one.
@@ -18,7 +18,8 @@ pub struct Refusal {
     ///
     /// The first byte of the word or operand at fault; for 3 byte 1,025, for 4 the first byte of the bad sequence, for 6
     /// one past the line's last byte, its end (LF, one CR) not counted, for 10 the condition word that is one too many, for
-    /// 11 to 13 the directive word that took effect. 2^16 - 1 also for a greater one, which no text has.
+    /// 11 to 13 the directive word that took effect, in an old byte table the first word of the line. 2^16 - 1 also for a
+    /// greater one, which no text has.
     pub column: u32,
 }
 
@@ -46,6 +47,7 @@ impl Refusal {
             17 => "`else` or `endIf` with no block open, or a second `else`",
             18 => "block open at the end of the text",
             19 => "window beyond the page",
+            20 => "edition neither 1 nor 2",
             _ => "refused for a reason unknown here",
         }
     }
@@ -55,7 +57,7 @@ impl fmt::Display for Refusal {
     fn fmt(&self, f: &mut fmt::Formatter<'_>) -> fmt::Result {
         let place = match self.number {
             0 => "answer",
-            1 | 2 => "",
+            1 | 2 | 20 => "",
             3..=13 | 16..=18 => "line",
             14 => "character",
             15 => "pair",
@@ -92,7 +94,8 @@ mod tests {
             (17, 4, 2, "line 4, column 2: `else` or `endIf` with no block open, or a second `else` (refusal 17)"),
             (18, 2, 0, "line 2: block open at the end of the text (refusal 18)"),
             (19, 4, 0, "window 4: window beyond the page (refusal 19)"),
-            (20, 4, 0, "place 4: refused for a reason unknown here (refusal 20)"),
+            (20, 0, 0, "edition neither 1 nor 2 (refusal 20)"),
+            (21, 4, 0, "place 4: refused for a reason unknown here (refusal 21)"),
             (u32::MAX, 0, 5, "place 0, column 5: refused for a reason unknown here (refusal 4294967295)"),
         ] {
             assert_eq!(Refusal { number, place, column }.to_string(), message);

@@ -1,4 +1,4 @@
-use crate::{Refusal, Shown, Window, CELLS, TABLE_WORDS};
+use crate::{Refusal, Shown, Window, CELLS, TABLE_WORDS, TEXT_EDITION};
 
 /// A compiled text table that owns its words.
 ///
@@ -11,10 +11,10 @@ pub struct Table {
 }
 
 impl Table {
-    /// Compiles a text, or answers its refusal with line and column.
+    /// Compiles a text of [`TEXT_EDITION`], or answers its refusal with line and column.
     pub fn compile(text: &[u8]) -> Result<Table, Refusal> {
         let mut words = vec![0; TABLE_WORDS].into_boxed_slice();
-        let definitions = crate::compile(text, &mut words)?;
+        let definitions = crate::compile(TEXT_EDITION, text, &mut words)?;
         Ok(Table { words, definitions })
     }
 
