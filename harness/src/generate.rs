@@ -2,7 +2,8 @@
 
 use crate::random::Random;
 use crate::reference::{
-    self, Block, Condition, Meanings, Pairs, Place, Reading, Window, CONDITIONS, LINE_BYTES, PAIRS, TEXT_BYTES, WORDS,
+    self, Block, ByteTable, Condition, Meanings, Pairs, Place, Reading, Window, CONDITIONS, LINE_BYTES, PAIRS,
+    TEXT_BYTES, WORDS,
 };
 
 /// Characters that the rules know: bases, characters with a base, stand-ins and characters with one.
@@ -82,6 +83,8 @@ struct Maker<'r> {
     /// The table of the lines so far.
     words: Vec<u32>,
     reading: Reading,
+    /// The same of a byte table.
+    byte_table: ByteTable,
 }
 
 const UNKNOWN: [&str; 18] = [
@@ -153,6 +156,7 @@ impl Maker<'_> {
             asked: Vec::new(),
             words: vec![0; WORDS],
             reading: Reading::default(),
+            byte_table: ByteTable::default(),
         }
     }
 
@@ -180,6 +184,11 @@ impl Maker<'_> {
         hex.chars().map(|digit| if self.random.percent(50) { digit.to_ascii_lowercase() } else { digit }).collect()
     }
 
+    fn hex_escape(&mut self, number: u32) -> String {
+        let letter = if self.random.percent(50) { 'x' } else { 'X' };
+        format!("\\{letter}{}", self.hex(number, 2))
+    }
+
     /// A character in any form that can write it.
     fn write_character(&mut self, bytes: &mut Vec<u8>, character: u32, unicode: bool) {
         let raw = !matches!(character, 0x09 | 0x0A | 0x20 | 0x5C);
@@ -190,10 +199,7 @@ impl Maker<'_> {
         loop {
             let form = match self.random.below(6) {
                 0 if character <= 0o777 => format!("\\o{character:03o}"),
-                1 if character <= 0xFF => {
-                    let letter = if self.random.percent(50) { 'x' } else { 'X' };
-                    format!("\\{letter}{}", self.hex(character, 2))
-                }
+                1 if character <= 0xFF => self.hex_escape(character),
                 2 if character <= 0xFFFF && unicode => format!("\\u{}", self.hex(character, 4)),
                 3 if unicode => format!("\\U{}", self.hex(character, 8)),
                 4 | 5 => match character {
@@ -229,9 +235,13 @@ impl Maker<'_> {
         self.write_character(bytes, character, true);
     }
 
-    fn byte(&mut self, bytes: &mut Vec<u8>) {
+    fn draw_byte(&mut self) -> u8 {
         let drawn = *self.random.pick(&self.alphabet);
-        let character = if drawn <= 255 { drawn } else { u32::from(self.random.byte()) };
+        u8::try_from(drawn).unwrap_or_else(|_| self.random.byte())
+    }
+
+    fn byte(&mut self, bytes: &mut Vec<u8>) {
+        let character = self.draw_byte().into();
         self.write_character(bytes, character, false);
     }
 
@@ -418,6 +428,18 @@ impl Maker<'_> {
 
     /// A well-formed line without its end.
     fn line(&mut self) -> Vec<u8> {
+        self.line_with(|maker, drawn, bytes| match drawn {
+            4..=15 if maker.most_blocks > 0 => maker.block_line(bytes),
+            _ => {
+                maker.conditions(bytes);
+                maker.definition(bytes);
+                maker.trail(bytes);
+            }
+        })
+    }
+
+    /// A line that is skipped, or one whose directive is written by a number from 4 to 29.
+    fn line_with(&mut self, directive: fn(&mut Self, usize, &mut Vec<u8>)) -> Vec<u8> {
         let mut bytes = Vec::new();
         if self.random.percent(10) {
             self.blanks(&mut bytes);
@@ -426,12 +448,7 @@ impl Maker<'_> {
             0 => {}
             1 => self.blanks(&mut bytes),
             2 | 3 => self.comment(&mut bytes),
-            4..=15 if self.most_blocks > 0 => self.block_line(&mut bytes),
-            _ => {
-                self.conditions(&mut bytes);
-                self.definition(&mut bytes);
-                self.trail(&mut bytes);
-            }
+            drawn => directive(self, drawn, &mut bytes),
         }
         if self.random.below(400) == 0 {
             self.pad(&mut bytes, 0);
@@ -453,6 +470,22 @@ impl Maker<'_> {
         }
     }
 
+    /// The first words of a directive, not all of them, at times with a `#` behind.
+    fn write_part(&mut self, bytes: &mut Vec<u8>, directive: &[u8]) {
+        let words: Vec<&[u8]> =
+            directive.split(|byte| *byte == b' ' || *byte == b'\t').filter(|word| !word.is_empty()).collect();
+        let kept = self.random.below(words.len());
+        for word in &words[..kept] {
+            bytes.extend(*word);
+            self.blanks(bytes);
+        }
+        if self.random.percent(40) {
+            bytes.push(b'#');
+        } else if self.random.percent(50) {
+            trim_end(bytes);
+        }
+    }
+
     /// A line with one fault of the grammar, behind conditions that may hold or fail.
     fn faulty_line(&mut self) -> Vec<u8> {
         let mut bytes = Vec::new();
@@ -469,18 +502,7 @@ impl Maker<'_> {
             1 => {
                 let mut end = Vec::new();
                 self.definition(&mut end);
-                let words: Vec<&[u8]> =
-                    end.split(|byte| *byte == b' ' || *byte == b'\t').filter(|word| !word.is_empty()).collect();
-                let kept = self.random.below(words.len());
-                for word in &words[..kept] {
-                    bytes.extend(*word);
-                    self.blanks(&mut bytes);
-                }
-                if self.random.percent(40) {
-                    bytes.push(b'#');
-                } else if self.random.percent(50) {
-                    trim_end(&mut bytes);
-                }
+                self.write_part(&mut bytes, &end);
             }
             2 | 3 => {
                 bytes.extend(word.as_bytes());
@@ -557,10 +579,14 @@ impl Maker<'_> {
     fn add(&mut self, line: &[u8], only_accepted: bool) {
         let taken = reference::take_line(line, &mut self.words, &mut self.reading);
         if taken.is_ok() || !only_accepted {
-            self.bytes.extend(line);
-            end_line(self.random, &mut self.bytes);
+            self.put(line);
         }
         self.depth = self.depth.max(self.open());
+    }
+
+    fn put(&mut self, line: &[u8]) {
+        self.bytes.extend(line);
+        end_line(self.random, &mut self.bytes);
     }
 
     fn add_lines(&mut self, count: usize, only_accepted: bool) {
@@ -1069,25 +1095,36 @@ const BAD_STATES: [&str; 20] = [
 
 const BAD_DOT_NUMBERS: [&str; 12] = ["0", "9", "12", "(1)", "01", "1=blink", "#", "a", "+1", "\\x31", "1#", "é"];
 
+fn few_blanks(random: &mut Random) -> &'static str {
+    [" ", " ", " ", " ", "\t", "  "][random.below(6)]
+}
+
+/// A `dot` directive, `on` and `off` among its states where `fixed` admits them.
+fn dot_directive(random: &mut Random, dot: usize, fixed: bool) -> String {
+    let mut line = format!("dot{}{dot}{}", few_blanks(random), few_blanks(random));
+    if fixed && random.percent(40) {
+        line += if random.percent(50) { "on" } else { "off" };
+    } else {
+        line.push(if random.percent(50) { '=' } else { '~' });
+        line += random.pick(&reference::NAMES).0;
+    }
+    line
+}
+
 fn attributes_line(random: &mut Random) -> Vec<u8> {
-    let blanks = |random: &mut Random| *random.pick(&[" ", " ", " ", " ", "\t", "  "]);
     let mut line = String::new();
     if random.percent(10) {
-        line += blanks(random);
+        line += few_blanks(random);
     }
     match random.below(20) {
         0 => {}
         1 => line += "#",
         2 => line += "# dot 1 =é€𝄞",
         _ => {
-            line += "dot";
-            line += blanks(random);
-            line.push(char::from(b'1' + random.below(8) as u8));
-            line += blanks(random);
-            line.push(if random.percent(50) { '=' } else { '~' });
-            line += random.pick(&reference::NAMES).0;
+            let dot = random.between(1, 8);
+            line += &dot_directive(random, dot, false);
             match random.below(10) {
-                0 => line += blanks(random),
+                0 => line += few_blanks(random),
                 1 => line += " # é€𝄞 on",
                 2 => line += "\t#",
                 _ => {}
@@ -1119,6 +1156,18 @@ fn faulty_attributes_line(random: &mut Random) -> Vec<u8> {
     line.into_bytes()
 }
 
+/// The end of a text, damaged or not; now and then it is brought to about 65,536 bytes.
+fn finish(random: &mut Random, bytes: &mut Vec<u8>, damaged: bool) {
+    if damaged {
+        damage(random, bytes);
+    }
+    end_text(random, bytes);
+    if random.percent(2) {
+        let length = random.between(TEXT_BYTES - 2, TEXT_BYTES + 2);
+        fill_up(random, bytes, length);
+    }
+}
+
 /// An attributes table's text.
 pub fn attributes_text(random: &mut Random) -> Vec<u8> {
     let mode = random.below(100);
@@ -1140,13 +1189,215 @@ pub fn attributes_text(random: &mut Random) -> Vec<u8> {
         bytes.extend(attributes_line(random));
         end_line(random, &mut bytes);
     }
-    if mode > 84 {
-        damage(random, &mut bytes);
+    finish(random, &mut bytes, mode > 84);
+    bytes
+}
+
+// Byte tables.
+
+/// Words that a byte table does not take for a byte, beside those that no operand is.
+const NOT_OLD_BYTES: [&str; 24] = [
+    "\\b", "\\t", "\\n", "\\v", "\\f", "\\r", "\\s", "\\#", "\\o101", "\\o007", "\\x4G", "\\xé", "\\x41\r", "\\\\x",
+    "Byte", "BYTE", "bytes", "byt", "Dot", "dots", "char", "else", "\u{FEFF}byte", "𝄞",
+];
+
+/// Words that are not quite `on` or `off`.
+const NOT_FIXED: [&str; 12] = ["On", "ON", "Off", "OFF", "o", "onn", "of", "offs", "on#", "=on", "~off", "off\r"];
+
+impl Maker<'_> {
+    /// A byte in any form that a byte table has for it.
+    fn write_old_byte(&mut self, bytes: &mut Vec<u8>, byte: u8) {
+        let escaped = matches!(byte, b'\t' | b'\n' | b' ' | b'\\');
+        if byte == b'\\' && self.random.percent(50) {
+            bytes.extend(b"\\\\");
+        } else if escaped || self.random.percent(40) {
+            bytes.extend(self.hex_escape(byte.into()).as_bytes());
+        } else {
+            add_character(bytes, byte.into());
+        }
     }
-    end_text(random, &mut bytes);
-    if random.below(100) == 0 {
-        let length = random.between(TEXT_BYTES - 2, TEXT_BYTES + 2);
-        fill_up(random, &mut bytes, length);
+
+    /// A byte line up to its dots, with the word or without.
+    fn byte_front(&mut self, bytes: &mut Vec<u8>, byte: u8) {
+        if self.random.percent(50) {
+            bytes.extend(b"byte");
+            self.blanks(bytes);
+        }
+        self.write_old_byte(bytes, byte);
+        self.blanks(bytes);
     }
+
+    fn byte_directive(&mut self, bytes: &mut Vec<u8>, byte: u8) {
+        self.byte_front(bytes, byte);
+        self.write_dots(bytes);
+    }
+
+    /// A directive of a byte table: one in four is a `dot` line.
+    fn old_directive(&mut self, bytes: &mut Vec<u8>) {
+        if self.random.percent(25) {
+            let dot = self.random.between(1, 8);
+            bytes.extend(dot_directive(self.random, dot, true).as_bytes());
+        } else {
+            let byte = self.draw_byte();
+            self.byte_directive(bytes, byte);
+        }
+    }
+
+    /// Adds well-formed lines to a byte table; those that would be refused may be left out.
+    fn add_old_lines(&mut self, count: usize, only_accepted: bool) {
+        for _ in 0..count {
+            let line = self.line_with(|maker, _, bytes| {
+                maker.old_directive(bytes);
+                maker.trail(bytes);
+            });
+            self.add_old(&line, only_accepted);
+        }
+    }
+
+    fn add_old(&mut self, line: &[u8], only_accepted: bool) {
+        if self.byte_table.take_line(line).is_ok() || !only_accepted {
+            self.put(line);
+        }
+    }
+
+    /// Adds a line for every byte, in any order.
+    fn add_every_byte(&mut self) {
+        let mut order: Vec<u8> = (0..=255).collect();
+        for place in (1..order.len()).rev() {
+            order.swap(place, self.random.below(place + 1));
+        }
+        for byte in order {
+            let mut line = Vec::new();
+            self.byte_directive(&mut line, byte);
+            // A `#` without the word would make it a comment.
+            if line[0] == b'#' {
+                line.splice(..0, *b"byte ");
+            }
+            self.trail(&mut line);
+            self.add_old(&line, true);
+        }
+    }
+
+    /// Adds a line for every dot that has none.
+    fn add_every_dot(&mut self) {
+        for dot in 1..=8 {
+            let line = dot_directive(self.random, dot, true);
+            self.add_old(line.as_bytes(), true);
+        }
+    }
+
+    /// Adds two lines for the same byte or dot, the second at times with a further fault.
+    fn add_twice(&mut self) {
+        let byte = self.draw_byte();
+        let dot = self.random.between(1, 8);
+        let for_byte = self.random.percent(70);
+        for turn in 0..2 {
+            let mut line = Vec::new();
+            if for_byte {
+                self.byte_directive(&mut line, byte);
+            } else {
+                line.extend(dot_directive(self.random, dot, true).as_bytes());
+            }
+            if turn == 1 && self.random.percent(20) {
+                self.blanks(&mut line);
+                line.extend(self.random.pick(&AFTER).as_bytes());
+            } else {
+                self.trail(&mut line);
+            }
+            let line = spaced(self.random, &line);
+            self.add_old(&line, turn == 0);
+            let count = self.random.below(3);
+            self.add_old_lines(count, true);
+        }
+    }
+
+    /// A line of a byte table with one fault of the grammar.
+    fn faulty_old_line(&mut self) -> Vec<u8> {
+        let mut bytes = Vec::new();
+        let byte = self.draw_byte();
+        match self.random.below(13) {
+            0..=2 => {
+                if self.random.percent(50) {
+                    bytes.extend(b"byte");
+                    self.blanks(&mut bytes);
+                }
+                let bad: &[&str] = match self.random.below(4) {
+                    0 => &BAD_CHARACTERS,
+                    1 => &BAD_BYTES,
+                    _ => &NOT_OLD_BYTES,
+                };
+                bytes.extend(self.random.pick(bad).as_bytes());
+                self.blanks(&mut bytes);
+                self.write_dots(&mut bytes);
+            }
+            3 => {
+                let mut directive = Vec::new();
+                self.old_directive(&mut directive);
+                self.write_part(&mut bytes, &directive);
+            }
+            4 | 5 => {
+                self.byte_front(&mut bytes, byte);
+                bytes.extend(self.random.pick(&BAD_DOTS).as_bytes());
+                self.trail(&mut bytes);
+            }
+            6 => {
+                bytes.extend(b"dot ");
+                bytes.extend(self.random.pick(&BAD_DOT_NUMBERS).as_bytes());
+                bytes.extend(b" off");
+            }
+            7 | 8 => {
+                bytes.extend(b"dot ");
+                bytes.push(b'1' + self.random.below(8) as u8);
+                self.blanks(&mut bytes);
+                let bad: &[&str] = if self.random.percent(50) { &BAD_STATES } else { &NOT_FIXED };
+                bytes.extend(self.random.pick(bad).as_bytes());
+                self.trail(&mut bytes);
+            }
+            9 | 10 => {
+                self.old_directive(&mut bytes);
+                self.blanks(&mut bytes);
+                bytes.extend(self.random.pick(&AFTER).as_bytes());
+            }
+            11 => {
+                // A line of a text table.
+                self.conditions(&mut bytes);
+                self.definition(&mut bytes);
+            }
+            _ => {
+                self.old_directive(&mut bytes);
+                let more = self.random.between(1, 3);
+                self.pad(&mut bytes, more);
+            }
+        }
+        bytes
+    }
+}
+
+/// A byte table's text.
+pub fn byte_text(random: &mut Random) -> Vec<u8> {
+    let mode = random.below(100);
+    let mut maker = Maker::new(random);
+    let only_accepted = !(56..=60).contains(&mode);
+    if maker.random.percent(3) {
+        maker.add_every_byte();
+    }
+    let count = maker.random.below(16);
+    maker.add_old_lines(count, only_accepted);
+    if maker.random.percent(5) {
+        maker.add_every_dot();
+    }
+    match mode {
+        61..=67 => maker.add_twice(),
+        68..=85 => {
+            let line = maker.faulty_old_line();
+            let line = spaced(maker.random, &line);
+            maker.add_old(&line, false);
+            let count = maker.random.below(3);
+            maker.add_old_lines(count, false);
+        }
+        _ => {}
+    }
+    let mut bytes = maker.bytes;
+    finish(random, &mut bytes, mode > 85);
     bytes
 }

@@ -44,9 +44,9 @@ fn check(words: &[u32]) -> Result<(Table, Pairs<'_>), Refusal> {
     Ok((table, pairs))
 }
 
-pub fn compile(text: &[u8], words: &mut [u32]) -> Result<u32, Refusal> {
+pub fn compile(edition: u32, text: &[u8], words: &mut [u32]) -> Result<u32, Refusal> {
     let mut table = Table::new();
-    reference::compile_by(text, words, |line, words, reading| {
+    reference::compile_by(edition, text, words, |line, words, reading| {
         let added = table.added(line, reading)?;
         if let Some(definition) = added {
             table.insert(definition.character, definition.meaning);

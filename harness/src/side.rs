@@ -3,13 +3,14 @@
 use crate::reference::{Refusal, Shown, Window};
 use crate::{hashed, reference};
 
+pub type Compile = fn(u32, &[u8], &mut [u32]) -> Result<u32, Refusal>;
 pub type Page = fn(&[u32], &[u32], &mut [u8], &mut [u8]) -> Result<(), Refusal>;
 pub type Windows = fn(&[u32], &[u32], &[Window], &mut [u8], &mut [u8]) -> Result<(), Refusal>;
 
 #[derive(Clone, Copy)]
 pub struct Side {
     pub name: &'static str,
-    pub compile: fn(&[u8], &mut [u32]) -> Result<u32, Refusal>,
+    pub compile: Compile,
     pub look_up: fn(&[u32], u32) -> Result<Shown, Refusal>,
     pub page: Page,
     pub windows: Windows,
@@ -17,6 +18,7 @@ pub struct Side {
     pub entries: fn(&[u32], &mut [u32]) -> Result<(), Refusal>,
     pub attribute_cell: fn(&[u8], u8) -> Result<u8, Refusal>,
     pub attribute_cells: fn(&[u8], &mut [u8]) -> Result<u32, Refusal>,
+    pub byte_cells: fn(&[u8], &mut [u8]) -> Result<u32, Refusal>,
 }
 
 impl Side {
@@ -54,6 +56,7 @@ pub const LIBRARY: Side = Side {
     entries: heathdapple::entries,
     attribute_cell: heathdapple::attribute_cell,
     attribute_cells: heathdapple::attribute_cells,
+    byte_cells: heathdapple::byte_cells,
 };
 
 pub const REFERENCE: Side = Side {
@@ -66,9 +69,10 @@ pub const REFERENCE: Side = Side {
     entries: reference::entries,
     attribute_cell: reference::attribute_cell,
     attribute_cells: reference::attribute_cells,
+    byte_cells: reference::byte_cells,
 };
 
-/// There is no hashed attributes table: eight places need none.
+/// There is no hashed attributes table and no hashed byte table: places by number need none.
 pub const HASHED: Side = Side {
     name: "hashed",
     compile: hashed::compile,

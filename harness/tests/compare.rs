@@ -1,13 +1,16 @@
-//! The library against the reference on random texts, tables, pages and windows: answers and lent memory, byte by byte.
+//! The library against the reference on random texts, tables, pages and windows, in every edition: answers and lent memory,
+//! byte by byte.
 //! HEATHDAPPLE_SEED names another seed.
 
 use harness::generate;
 use harness::random::Random;
-use harness::reference::{self, Refusal, Window, CONDITIONS, PAIRS, WORDS};
+use harness::reference::{
+    self, Refusal, Window, BYTE_EDITION, CELLS, CONDITIONS, PAIRS, TEXT_BYTES, TEXT_EDITION, WORDS,
+};
 use harness::side::{Side, HASHED, LIBRARY, REFERENCE};
 use std::collections::BTreeSet;
 use std::fmt::Debug;
-use std::ops::{Range, RangeInclusive};
+use std::ops::RangeInclusive;
 use std::process::exit;
 use std::time::Instant;
 
@@ -19,6 +22,8 @@ const LONG_CHAINS: u64 = 2;
 const TABLES: u64 = 20_000;
 const TABLES_FOR_WINDOWS: u64 = 30_000;
 const ATTRIBUTES_TEXTS: u64 = 25_000;
+const BYTE_TEXTS: u64 = 50_000;
+const TEXTS_FOR_EDITIONS: u64 = 4_000;
 const LEAST: u64 = 100;
 /// The least of what is met around a column, and the least columns of a number.
 const FEW: u64 = 10;
@@ -27,15 +32,23 @@ const SEVERAL: usize = 3;
 const ENOUGH: u64 = 10;
 const GUARD: usize = 16;
 /// The highest number of a refusal.
-const REFUSALS: usize = 19;
-/// The refusals with a column that a text table and an attributes table can have.
-const WITH_COLUMN: [&[usize]; 2] = [&[3, 4, 5, 6, 7, 8, 9, 10, 11, 12, 13, 17], &[3, 4, 5, 6, 8, 9, 11, 16]];
+const REFUSALS: usize = 20;
+/// The refusals with a column that a text table, an attributes table and a byte table can have.
+const WITH_COLUMN: [&[usize]; 3] =
+    [&[3, 4, 5, 6, 7, 8, 9, 10, 11, 12, 13, 17], &[3, 4, 5, 6, 8, 9, 11, 16], &[3, 4, 6, 7, 8, 9, 11, 16]];
 const TEXT_TABLE: usize = 0;
 const ATTRIBUTES_TABLE: usize = 1;
+const BYTE_TABLE: usize = 2;
 const RULES: [usize; 15] = [1, 3, 4, 5, 6, 7, 8, 9, 19, 20, 21, 22, 23, 24, 25];
 
 /// Lengths of a buffer for all 256 cells or bytes.
 const LENGTHS: [usize; 4] = [0, 255, 256, 300];
+
+/// Lengths of a slice of words, which an edition other than that of text tables does not look at.
+const WORD_LENGTHS: [usize; 4] = [0, WORDS - 1, WORDS, WORDS + 2];
+
+/// Editions that there are not.
+const OTHER_EDITIONS: [u32; 4] = [0, 3, 4, u32::MAX];
 
 /// Lines of which every five are put together, so every four and fewer too.
 const BLOCK_LINES: [&str; 13] = [
@@ -63,17 +76,29 @@ const BEFORE_WORDS: &str = "glyph é 1\nalias € 𝄞\n";
 const ATTRIBUTES_WORDS: [&str; 10] = ["", "dot", "1", "2", "9", "=blink", "~fg-red", "é", "#", "\r"];
 const BEFORE_ATTRIBUTES_WORDS: &str = "dot 1 =blink\n";
 
+/// Words of byte tables of which every five are put on a line, so every four and fewer too, and lines before it.
+const BYTE_WORDS: [&str; 14] =
+    ["", "byte", "dot", "a", "\\X61", "1", "(1 2)", "(1 9)", "off", "~blink", "é", "€", "#", "\r"];
+const BEFORE_BYTE_WORDS: &str = "\\x61 1\ndot 1 on\n";
+
 const LINE_ENDS: [&str; 8] = ["", "\n", "\r", "\r\n", "\r\r\n", "  \n", "\t\r\n", " \r\r\n"];
 
-const CALLS: [&str; 8] = ["compile", "look_up", "page", "windows", "typed", "entries", "attribute", "attributes"];
+/// The compile call counts as three: by edition 2, by edition 1 and by any other.
+const CALLS: [&str; 11] = [
+    "compile 2", "compile 1", "compile n", "byte_cells", "look_up", "page", "windows", "typed", "entries", "attribute",
+    "attributes",
+];
 const COMPILE: usize = 0;
-const LOOK_UP: usize = 1;
-const PAGE: usize = 2;
-const WINDOWS: usize = 3;
-const TYPED: usize = 4;
-const ENTRIES: usize = 5;
-const ATTRIBUTE_CELL: usize = 6;
-const ATTRIBUTE_CELLS: usize = 7;
+const COMPILE_BYTES: usize = 1;
+const COMPILE_OTHER: usize = 2;
+const BYTE_CELLS: usize = 3;
+const LOOK_UP: usize = 4;
+const PAGE: usize = 5;
+const WINDOWS: usize = 6;
+const TYPED: usize = 7;
+const ENTRIES: usize = 8;
+const ATTRIBUTE_CELL: usize = 9;
+const ATTRIBUTE_CELLS: usize = 10;
 
 /// Windows of which every two are put together, so also one and none: starts and widths of 0 to 4, and sums of 2^64.
 const SMALL_WINDOWS: usize = 28;
@@ -162,14 +187,87 @@ fn column_meets(line: &[u8], column: usize) -> [(&'static str, bool); COLUMN_MEE
 }
 
 /// Which of these each number is to be met with. `else` and `endIf` stand first on their line; in an attributes table only
-/// a bad sequence has characters of several bytes before it.
-fn columns_due(table: usize, number: usize) -> Range<usize> {
+/// a bad sequence has characters of several bytes before it, in a byte table also what follows a byte, of two bytes at most.
+fn columns_due(table: usize, number: usize) -> &'static [usize] {
     match (table, number) {
-        (TEXT_TABLE, 6) => 0..COLUMN_MEETS,
-        (TEXT_TABLE, 4..=13) => 0..5,
-        (ATTRIBUTES_TABLE, 4) => 0..4,
-        _ => 0..1,
+        (TEXT_TABLE, 6) => &[0, 1, 2, 3, 4, 5, 6, 7],
+        (TEXT_TABLE, 4..=13) => &[0, 1, 2, 3, 4],
+        (ATTRIBUTES_TABLE | BYTE_TABLE, 4) => &[0, 1, 2, 3],
+        (BYTE_TABLE, 6) => &[0, 1, 5, 6, 7],
+        (BYTE_TABLE, 8 | 9) => &[0, 1],
+        _ => &[0],
     }
+}
+
+/// The words of a line; none if it is skipped.
+fn words_of(line: &[u8]) -> Vec<&[u8]> {
+    let words: Vec<&[u8]> = line.split(|byte| b" \t".contains(byte)).filter(|word| !word.is_empty()).collect();
+    if words.first().is_some_and(|word| word.starts_with(b"#")) {
+        return Vec::new();
+    }
+    words
+}
+
+/// Whether a line of a byte table is a `dot` line.
+fn of_dot(words: &[&[u8]]) -> bool {
+    words.first() == Some(&b"dot".as_slice())
+}
+
+/// The dot of a line of a byte table, or its byte, as it is written.
+fn operand<'a>(words: &[&'a [u8]]) -> Option<&'a [u8]> {
+    let named = of_dot(words) || words.first() == Some(&b"byte".as_slice());
+    words.get(usize::from(named)).copied()
+}
+
+/// What a byte table's text may meet: how its reading ends, and by which writings.
+const BYTES_MEET: usize = 27;
+
+fn bytes_meet(text: &[u8], answer: Result<u32, Refusal>) -> [(&'static str, bool); BYTES_MEET] {
+    let lines: Vec<Vec<&[u8]>> = reference::lines(text).map(words_of).collect();
+    let (number, place) = answer.map_or_else(|refusal| (refusal.number, refusal.place as usize), |_| (0, 0));
+    let (earlier, faulty): (&[Vec<&[u8]>], &[&[u8]]) = match place {
+        0 => (&[], &[]),
+        _ => (&lines[..place - 1], &lines[place - 1]),
+    };
+    let written_before =
+        earlier.iter().any(|words| of_dot(words) == of_dot(faulty) && operand(words) == operand(faulty));
+    let accepted = answer.is_ok();
+    let dots = lines.iter().filter(|words| of_dot(words)).count();
+    let state = |holds: &dyn Fn(&[u8]) -> bool| {
+        accepted && lines.iter().any(|words| of_dot(words) && words.get(2).is_some_and(|word| holds(word)))
+    };
+    let byte = |holds: &dyn Fn(&[u8], &[u8]) -> bool| {
+        accepted && lines.iter().any(|words| !of_dot(words) && operand(words).is_some_and(|byte| holds(words[0], byte)))
+    };
+    [
+        ("accepted", accepted),
+        ("  no byte line", answer == Ok(0)),
+        ("  256 byte lines", answer == Ok(256)),
+        ("  some of both kinds", accepted && dots > 0 && answer != Ok(0)),
+        ("  eight dot lines", accepted && dots == 8),
+        ("  a dot on", state(&|word| word == b"on")),
+        ("  a dot off", state(&|word| word == b"off")),
+        ("  a dot by a bit that is on", state(&|word| word[0] == b'=')),
+        ("  a dot by a bit that is off", state(&|word| word[0] == b'~')),
+        ("  a byte behind the word", byte(&|first, byte| first != byte)),
+        ("  a byte without the word", byte(&|first, byte| first == byte)),
+        ("  a byte as #", byte(&|_, byte| byte == b"#")),
+        ("  a byte as CR", byte(&|_, byte| byte == b"\r")),
+        ("  a byte in two bytes of UTF-8", byte(&|_, byte| byte[0] >= 0x80)),
+        ("  a byte as \\\\", byte(&|_, byte| byte == b"\\\\")),
+        ("  a byte by \\x", byte(&|_, byte| byte.starts_with(b"\\x"))),
+        ("  a byte by \\X", byte(&|_, byte| byte.starts_with(b"\\X"))),
+        ("  65,536 bytes", accepted && text.len() == TEXT_BYTES),
+        ("  a last line without LF", accepted && text.last().is_some_and(|last| *last != b'\n')),
+        ("refusal 1", number == 1),
+        ("  by one byte", number == 1 && text.len() == TEXT_BYTES + 1),
+        ("refusal 9, defined already too", number == 9 && written_before),
+        ("refusal 11 for a dot", number == 11 && of_dot(faulty)),
+        ("refusal 11 for a byte", number == 11 && !of_dot(faulty)),
+        ("  in the same writing", number == 11 && !of_dot(faulty) && written_before),
+        ("  in another writing", number == 11 && !of_dot(faulty) && !written_before),
+        ("  without the word", number == 11 && faulty.len() == 2),
+    ]
 }
 
 /// The columns of a number's refusals.
@@ -210,7 +308,8 @@ struct Run {
     case: String,
     calls: [u64; CALLS.len()],
     refusals: [[u64; REFUSALS + 1]; CALLS.len()],
-    columns: [[Columns; REFUSALS + 1]; 2],
+    columns: [[Columns; REFUSALS + 1]; WITH_COLUMN.len()],
+    bytes_met: [(&'static str, u64); BYTES_MEET],
     windows_met: [(&'static str, u64); WINDOWS_MEET],
     /// Page calls beside accepted windows calls.
     pages_beside: u64,
@@ -219,6 +318,7 @@ struct Run {
     texts: Share,
     with_blocks: Share,
     full_depth: Share,
+    byte_texts: Share,
     differences: u64,
 }
 
@@ -276,6 +376,24 @@ fn shrink(text: &[u8], differs: impl Fn(&[u8]) -> bool) -> Vec<u8> {
     text
 }
 
+/// A text on which a side differs, and a smaller one with both answers. A call also gives the memory that it leaves.
+fn differing<A: Debug + PartialEq, M: PartialEq>(
+    text: &[u8],
+    side: &Side,
+    call: impl Fn(&Side, &[u8]) -> (Result<A, Refusal>, M),
+) -> String {
+    let small = shrink(text, |text| call(&REFERENCE, text) != call(side, text));
+    let [answer, other] = [&REFERENCE, side].map(|side| call(side, &small).0);
+    format!("text \"{}\"\n  smaller \"{}\": {answer:?} and {other:?}", shown(text), shown(&small))
+}
+
+/// Adds what one call met to the counts.
+fn count_met<const N: usize>(counts: &mut [(&'static str, u64); N], met: [(&'static str, bool); N]) {
+    for (count, (name, met)) in counts.iter_mut().zip(met) {
+        *count = (name, count.1 + u64::from(met));
+    }
+}
+
 impl Run {
     fn tally<T>(&mut self, call: usize, answer: &Result<T, Refusal>) {
         self.calls[call] += 1;
@@ -299,9 +417,7 @@ impl Run {
         let columns = &mut self.columns[table][number];
         columns.refusals += 1;
         columns.columns.insert(column);
-        for (count, (name, met)) in columns.met.iter_mut().zip(column_meets(line, column as usize)) {
-            *count = (name, count.1 + u64::from(met));
-        }
+        count_met(&mut columns.met, column_meets(line, column as usize));
     }
 
     fn differ(
@@ -389,23 +505,83 @@ impl Run {
         (answer, expected[inside].to_vec())
     }
 
-    /// Compiles into `length` words; answers them and the count.
-    fn compile(&mut self, text: &[u8], length: usize) -> (Vec<u32>, Option<usize>) {
+    /// Compiles by an edition into `length` words; answers the answer and them.
+    fn compile_by(&mut self, edition: u32, text: &[u8], length: usize) -> (Result<u32, Refusal>, Vec<u32>) {
+        let name = match edition {
+            TEXT_EDITION => COMPILE,
+            BYTE_EDITION => COMPILE_BYTES,
+            _ => COMPILE_OTHER,
+        };
         let before = self.random_words(length + 2 * GUARD);
         let (bytes, start) = self.place_bytes(text);
         let text = &bytes[start..start + text.len()];
-        let call = |side: &Side, words: &mut [u32]| (side.compile)(text, words);
-        let (answer, words) = self.filling(COMPILE, &before, call, |side| {
+        let call = |side: &Side, words: &mut [u32]| (side.compile)(edition, text, words);
+        self.filling(name, &before, call, |side| {
             let compiled = |side: &Side, text: &[u8]| {
                 let mut words = before[GUARD..GUARD + length].to_vec();
-                ((side.compile)(text, &mut words), words)
+                ((side.compile)(edition, text, &mut words), words)
             };
-            let small = shrink(text, |text| compiled(&REFERENCE, text) != compiled(side, text));
-            let [answer, other] = [&REFERENCE, side].map(|side| compiled(side, &small).0);
-            format!("text \"{}\"\n  smaller \"{}\": {answer:?} and {other:?}", shown(text), shown(&small))
-        });
+            format!("edition {edition}, {}", differing(text, side, compiled))
+        })
+    }
+
+    /// Compiles a text table into `length` words; answers them and the count.
+    fn compile(&mut self, text: &[u8], length: usize) -> (Vec<u32>, Option<usize>) {
+        let (answer, words) = self.compile_by(TEXT_EDITION, text, length);
         self.tally_column(TEXT_TABLE, text, &answer);
         (words, answer.ok().map(|count| count as usize))
+    }
+
+    /// A byte table compiled beside `words` words.
+    fn compile_bytes(&mut self, text: &[u8], words: usize) {
+        let (answer, _) = self.compile_by(BYTE_EDITION, text, words);
+        self.tally_column(BYTE_TABLE, text, &answer);
+        count_met(&mut self.bytes_met, bytes_meet(text, answer));
+    }
+
+    /// The cells of a byte table in a buffer of that length.
+    fn byte_cells(&mut self, text: &[u8], length: usize) {
+        let before = self.random_bytes(length + 2 * GUARD);
+        let (placed, start) = self.place_bytes(text);
+        let text = &placed[start..start + text.len()];
+        let call = |side: &Side, cells: &mut [u8]| (side.byte_cells)(text, cells);
+        let _ = self.filling(BYTE_CELLS, &before, call, |side| {
+            differing(text, side, |side, text| {
+                let mut cells = before[GUARD..GUARD + length].to_vec();
+                ((side.byte_cells)(text, &mut cells), cells)
+            })
+        });
+    }
+
+    /// A byte table with words and cells of any length.
+    fn byte_table(&mut self, text: &[u8]) {
+        let words = *self.random.pick(&WORD_LENGTHS);
+        self.compile_bytes(text, words);
+        // A buffer that is too short tells nothing of the text.
+        let cells = *self.random.pick(&[CELLS, CELLS, CELLS, LENGTHS[3], LENGTHS[1]]);
+        self.byte_cells(text, cells);
+    }
+
+    /// A byte table with words and cells of each length.
+    fn byte_table_all(&mut self, text: &[u8]) {
+        for length in WORD_LENGTHS {
+            self.compile_bytes(text, length);
+        }
+        for length in LENGTHS {
+            self.byte_cells(text, length);
+        }
+    }
+
+    /// A text of any kind in every edition, with words of each length.
+    fn editions(&mut self, text: &[u8]) {
+        let any = self.random.word();
+        for length in WORD_LENGTHS {
+            for edition in OTHER_EDITIONS.into_iter().chain([any]) {
+                let _ = self.compile_by(edition, text, length);
+            }
+            self.compile(text, length);
+        }
+        self.byte_table_all(text);
     }
 
     /// A call for all 256 cells or bytes in buffers of several lengths, and beside the 256 single calls of each side.
@@ -539,10 +715,7 @@ impl Run {
             self.fill_as(PAGE, &before, &one_by_one, &expected, &|| format!("beside a windows call, {}", input()));
             self.pages_beside += windows.len() as u64;
         }
-        let met = windows_meet(words, characters, windows, lengths, expected.0);
-        for (count, (name, met)) in self.windows_met.iter_mut().zip(met) {
-            *count = (name, count.1 + u64::from(met));
-        }
+        count_met(&mut self.windows_met, windows_meet(words, characters, windows, lengths, expected.0));
     }
 
     /// A page's characters; of 80 pages in a hundred all are scalars, of the others most.
@@ -628,7 +801,7 @@ impl Run {
         *self.random.pick(&[0, 1, 2, 1024, 2046, 2047, 2047, 2047])
     }
 
-    /// A line of `count` words, those of the case, with any blanks and any end.
+    /// A line of `count` words, those of the case, with any blanks; without its end.
     fn line(&mut self, words: &[&str], count: u32, case: u64) -> String {
         let mut line = self.random.pick(&["", "", " ", "\t "]).to_string();
         let mut rest = case as usize;
@@ -638,7 +811,11 @@ impl Run {
             rest /= words.len();
         }
         line.truncate(line.trim_end_matches([' ', '\t']).len());
-        line + *self.random.pick(&LINE_ENDS)
+        line
+    }
+
+    fn line_end(&mut self) -> &'static str {
+        LINE_ENDS[self.random.below(LINE_ENDS.len())]
     }
 
     /// Everything on one text.
@@ -702,9 +879,8 @@ impl Run {
                 ATTRIBUTE_CELL,
                 |side| (side.attribute_cell)(text, byte),
                 |side| {
-                    let cell = |side: &Side, text: &[u8]| (side.attribute_cell)(text, byte);
-                    let small = shrink(text, |text| cell(&REFERENCE, text) != cell(side, text));
-                    format!("byte {byte:02X}, text \"{}\"\n  smaller \"{}\"", shown(text), shown(&small))
+                    let cell = |side: &Side, text: &[u8]| ((side.attribute_cell)(text, byte), ());
+                    format!("byte {byte:02X}, {}", differing(text, side, cell))
                 },
             );
             self.tally_column(ATTRIBUTES_TABLE, text, &answer);
@@ -748,6 +924,7 @@ fn main() {
         calls: [0; CALLS.len()],
         refusals: [[0; REFUSALS + 1]; CALLS.len()],
         columns: Default::default(),
+        bytes_met: [("", 0); BYTES_MEET],
         windows_met: [("", 0); WINDOWS_MEET],
         pages_beside: 0,
         rules: [0; 32],
@@ -755,6 +932,7 @@ fn main() {
         texts: Share::default(),
         with_blocks: Share::default(),
         full_depth: Share::default(),
+        byte_texts: Share::default(),
         differences: 0,
     };
     let begun = Instant::now();
@@ -863,17 +1041,32 @@ fn main() {
         run.compile(text.as_bytes(), WORDS);
     });
     part("any five words", 14, (LINE_WORDS.len() as u64).pow(5), &|run, case| {
-        let text = BEFORE_WORDS.to_string() + &run.line(&LINE_WORDS, 5, case);
+        let text = BEFORE_WORDS.to_string() + &run.line(&LINE_WORDS, 5, case) + run.line_end();
         run.compile(text.as_bytes(), WORDS);
     });
     part("any four words", 15, (ATTRIBUTES_WORDS.len() as u64).pow(4), &|run, case| {
-        let text = BEFORE_ATTRIBUTES_WORDS.to_string() + &run.line(&ATTRIBUTES_WORDS, 4, case);
+        let text = BEFORE_ATTRIBUTES_WORDS.to_string() + &run.line(&ATTRIBUTES_WORDS, 4, case) + run.line_end();
         run.attributes(text.as_bytes());
+    });
+    part("byte table words", 17, (BYTE_WORDS.len() as u64).pow(5), &|run, case| {
+        let line = BEFORE_BYTE_WORDS.to_string() + &run.line(&BYTE_WORDS, 5, case);
+        // Up to three words with every end.
+        let few = case < (BYTE_WORDS.len() as u64).pow(3);
+        let ends = if few { LINE_ENDS.to_vec() } else { vec![run.line_end()] };
+        for end in ends {
+            run.byte_table((line.clone() + end).as_bytes());
+        }
     });
     part("any two bytes", 8, 1 << 16, &|run, case| {
         let two = [(case >> 8) as u8, case as u8];
         run.compile(&[b"char ", two.as_slice(), b" 1"].concat(), WORDS);
         run.compile(&[b"ifNotGlyph a char a ", two.as_slice()].concat(), WORDS);
+        for front in ["", "byte ", "\\", "byte \\x", "\\X"] {
+            run.byte_table(&[front.as_bytes(), two.as_slice(), b" 1"].concat());
+        }
+        for front in ["a ", "dot ", "dot 1 o"] {
+            run.byte_table(&[front.as_bytes(), two.as_slice()].concat());
+        }
     });
     part("UTF-8 sequences", 9, 64 * 1000, &|run, case| {
         // Each lead byte with continuations at the borders of what may follow.
@@ -881,8 +1074,11 @@ fn main() {
         let sequence = [0xC0 + (case / 1000) as u8, at(case), at(case / 10), at(case / 100)];
         let kept = 1 + run.random.below(4);
         let front = *run.random.pick(&["#", "# é", "#€", "#𝄞", "#é€𝄞"]);
-        run.compile(&[front.as_bytes(), &sequence[..kept]].concat(), WORDS);
+        let comment = [front.as_bytes(), &sequence[..kept]].concat();
+        run.compile(&comment, WORDS);
         run.compile(&[b"glyph ", sequence.as_slice(), b" 1"].concat(), WORDS);
+        run.byte_table(&comment);
+        run.byte_table(&[sequence.as_slice(), b" 1"].concat());
     });
     part("every character", 10, 3, &|run, case| {
         let texts = [
@@ -910,10 +1106,28 @@ fn main() {
             _ => run.attributes(&text),
         }
     });
+    part("byte texts", 16, BYTE_TEXTS, &|run, case| {
+        let text = generate::byte_text(&mut run.random);
+        run.byte_texts.count(reference::byte_table(&text).0.is_ok());
+        match case % 8 {
+            0 => run.byte_table_all(&text),
+            _ => run.byte_table(&text),
+        }
+    });
+    part("editions", 18, TEXTS_FOR_EDITIONS, &|run, case| {
+        let text = match case % 10 {
+            0 => generate::long_text(&mut run.random).bytes,
+            1..=3 => generate::text(&mut run.random).bytes,
+            4..=6 => generate::attributes_text(&mut run.random),
+            _ => generate::byte_text(&mut run.random),
+        };
+        run.editions(&text);
+    });
 
     run.texts.print("texts of tables");
     run.with_blocks.print("  of these with blocks");
     run.full_depth.print(&format!("  of these {CONDITIONS} deep"));
+    run.byte_texts.print("texts of byte tables");
     println!("longest walk looked up: {}", run.links);
     let all_calls: u64 = run.calls.iter().sum();
     println!("calls compared: {all_calls}");
@@ -934,7 +1148,8 @@ fn main() {
             short.push(format!("refusal {number}"));
         }
     }
-    for (table, name) in [(TEXT_TABLE, "text tables"), (ATTRIBUTES_TABLE, "attributes tables")] {
+    let tables = [(TEXT_TABLE, "text tables"), (ATTRIBUTES_TABLE, "attributes tables"), (BYTE_TABLE, "byte tables")];
+    for (table, name) in tables {
         println!("columns of refusals of {name}, what is before them on the line, and how it ends:");
         print!("  {:<12}{:>12}{:>12}", "", "refusals", "columns");
         column_meets(b"", 1).iter().for_each(|(name, _)| print!("{name:>12}"));
@@ -944,12 +1159,15 @@ fn main() {
             print!("  refusal {number:<4}{refusals:>12}{:>12}", columns.len());
             met.iter().for_each(|(_, count)| print!("{count:>12}"));
             println!();
+            if *refusals < LEAST {
+                short.push(format!("refusal {number} of {name}"));
+            }
             // 3 is always at the same.
             if number != 3 && columns.len() < SEVERAL {
                 rare.push(format!("columns of refusal {number} of {name}"));
             }
-            for (fact, count) in &met[columns_due(table, number)] {
-                if *count < FEW {
+            for (fact, count) in columns_due(table, number).iter().map(|which| met[*which]) {
+                if count < FEW {
                     rare.push(format!("refusal {number} of {name}, {fact}"));
                 }
             }
@@ -962,13 +1180,18 @@ fn main() {
         }
     }
     let others: u64 = (0..run.rules.len()).filter(|rule| !RULES.contains(rule)).map(|rule| run.rules[rule]).sum();
-    println!("windows calls: {}, {} page calls beside those accepted", run.calls[WINDOWS], run.pages_beside);
-    for (name, count) in run.windows_met {
-        println!("  {name:<40} {count:>12}");
-        if count < LEAST {
-            short.push(format!("windows call, {}", name.trim()));
+    let mut print_met = |call: &str, met: &[(&str, u64)]| {
+        for (name, count) in met {
+            println!("  {name:<40} {count:>12}");
+            if *count < LEAST {
+                short.push(format!("{call}, {}", name.trim()));
+            }
         }
-    }
+    };
+    println!("windows calls: {}, {} page calls beside those accepted", run.calls[WINDOWS], run.pages_beside);
+    print_met("windows call", &run.windows_met);
+    println!("compile calls by edition 1: {}", run.calls[COMPILE_BYTES]);
+    print_met("compile call by edition 1", &run.bytes_met);
     println!("time {:.1} s, differences {}", begun.elapsed().as_secs_f64(), run.differences);
 
     let mut failed = false;
@@ -990,6 +1213,9 @@ fn main() {
     }
     if 2 * run.with_blocks.accepted < run.with_blocks.all {
         fail("less than half of the texts with blocks were accepted".into());
+    }
+    if 2 * run.byte_texts.accepted < run.byte_texts.all {
+        fail("less than half of the texts of byte tables were accepted".into());
     }
     if run.texts.all < 100_000 {
         fail("less than 100,000 texts".into());

@@ -1,7 +1,7 @@
-//! The worked examples and edges of document 01, the blocks, windows and columns of document 02 and the settled readings,
-//! with the answers written out, on every side.
+//! The worked examples and edges of document 01, the blocks, windows, columns and byte tables of document 02 and the settled
+//! readings, with the answers written out, on every side.
 
-use harness::reference::{self, Place, Refusal, Shown, Window, WORDS};
+use harness::reference::{self, Place, Refusal, Shown, Window, BYTE_EDITION, TEXT_EDITION, WORDS};
 use harness::side::SIDES;
 use std::fmt::Debug;
 
@@ -11,7 +11,7 @@ type Answer = Result<u32, (u32, u32)>;
 
 fn compiled(text: &[u8]) -> Vec<u32> {
     let mut words = vec![7; WORDS];
-    reference::compile(text, &mut words).expect("an accepted text");
+    reference::compile(TEXT_EDITION, text, &mut words).expect("an accepted text");
     words
 }
 
@@ -25,7 +25,7 @@ fn pair(refusal: Refusal) -> (u32, u32) {
 fn expect_bytes(text: &[u8], answer: Answer, pairs: Option<&[[u32; 2]]>) {
     for side in SIDES {
         let mut words = vec![0xA5A5_A5A5; WORDS + 3];
-        let got = (side.compile)(text, &mut words).map_err(pair);
+        let got = (side.compile)(TEXT_EDITION, text, &mut words).map_err(pair);
         assert_eq!(got, answer, "{}: {:?}", side.name, String::from_utf8_lossy(text));
         assert_eq!(words[WORDS..], [0xA5A5_A5A5; 3], "{}", side.name);
         match answer {
@@ -126,8 +126,8 @@ fn lengths() {
         for length in [0, 1, 2047] {
             let mut words = vec![5; length];
             let short = Err(Refusal { number: 2, place: 0, column: 0 });
-            assert_eq!((side.compile)(b"", &mut words), short, "{}", side.name);
-            assert_eq!((side.compile)(&[b'\n'; 65_537], &mut words), short, "{}", side.name);
+            assert_eq!((side.compile)(TEXT_EDITION, b"", &mut words), short, "{}", side.name);
+            assert_eq!((side.compile)(TEXT_EDITION, &[b'\n'; 65_537], &mut words), short, "{}", side.name);
             assert!(words.iter().all(|word| *word == 5), "{}", side.name);
             assert_eq!((side.look_up)(&words, 0xD800).map_err(pair), Err((2, 0)), "{}", side.name);
             assert_eq!((side.typed)(&words, 0).map_err(pair), Err((2, 0)), "{}", side.name);
@@ -599,7 +599,7 @@ fn blocks_left_open() {
     refuses_at(&format!("ifGlyph a\n{}", "\n".repeat(65_526)), 18, 1);
     for side in SIDES {
         let mut words = [5; WORDS - 1];
-        assert_eq!((side.compile)(b"ifGlyph a", &mut words).map_err(pair), Err((2, 0)), "{}", side.name);
+        assert_eq!((side.compile)(TEXT_EDITION, b"ifGlyph a", &mut words).map_err(pair), Err((2, 0)), "{}", side.name);
         assert!(words.iter().all(|word| *word == 5), "{}", side.name);
     }
 }
@@ -633,7 +633,7 @@ fn columns<T: AsRef<[u8]>>(table: &[(T, [u32; 3])]) {
         expect_bytes(text, Err((*number, *place)), None);
         let refusal = Refusal { number: *number, place: *place, column: *column };
         for side in SIDES {
-            let got = (side.compile)(text, &mut [0; WORDS]);
+            let got = (side.compile)(TEXT_EDITION, text, &mut [0; WORDS]);
             assert_eq!(got, Err(refusal), "{}: {:?}", side.name, String::from_utf8_lossy(text));
         }
     }
@@ -923,7 +923,7 @@ fn no_columns() {
     columns(&[("\n".repeat(65_537), [1, 0, 0]), (format!("x{}", "\n".repeat(65_536)), [1, 0, 0])]);
     for side in SIDES {
         let short = Err(Refusal { number: 2, place: 0, column: 0 });
-        assert_eq!((side.compile)(b"char a 9", &mut [0; WORDS - 1]), short, "{}", side.name);
+        assert_eq!((side.compile)(TEXT_EDITION, b"char a 9", &mut [0; WORDS - 1]), short, "{}", side.name);
         assert_eq!((side.attribute_cells)(b"dot 9", &mut [0; 255]), short, "{}", side.name);
     }
 }
@@ -1432,4 +1432,423 @@ fn attribute_names() {
     let same = |byte: usize| byte as u8;
     attribute_cells_are(on.as_bytes(), Ok((8, std::array::from_fn(same))));
     attribute_cells_are(off.as_bytes(), Ok((8, std::array::from_fn(|byte| !same(byte)))));
+}
+
+/// Cells that are all the same but for some bytes.
+fn cells_but(all: u8, bytes: &[(u8, u8)]) -> [u8; 256] {
+    let mut cells = [all; 256];
+    bytes.iter().for_each(|(byte, cell)| cells[usize::from(*byte)] = *cell);
+    cells
+}
+
+/// Reads a byte table on every side, into buffers and beside words of several lengths, and looks at the answer, the cells
+/// and all that has to stay: the count and the cells, or number, line and column, and 255 for every byte.
+fn byte_table_is(text: impl AsRef<[u8]>, answer: Result<(u32, [u8; 256]), [u32; 3]>) {
+    let text = text.as_ref();
+    let expected = answer.map(|(count, _)| count);
+    let expected = expected.map_err(|[number, place, column]| Refusal { number, place, column });
+    let cells = answer.map_or([255; 256], |(_, cells)| cells);
+    for side in SIDES {
+        let input = || format!("{}: {:?}", side.name, String::from_utf8_lossy(&text[..text.len().min(200)]));
+        for length in [0, 1, 2047, 2048, 2050] {
+            let mut words = vec![0xA5A5_A5A5; length];
+            assert_eq!((side.compile)(BYTE_EDITION, text, &mut words), expected, "{}", input());
+            assert_eq!(words, vec![0xA5A5_A5A5; length], "{}", input());
+        }
+        for length in [0, 1, 255] {
+            let mut short = vec![0xA5; length];
+            let refusal = Err(Refusal { number: 2, place: 0, column: 0 });
+            assert_eq!((side.byte_cells)(text, &mut short), refusal, "{}", input());
+            assert_eq!(short, vec![0xA5; length], "{}", input());
+        }
+        for length in [256, 257, 300] {
+            let mut buffer = vec![0xA5; length];
+            assert_eq!((side.byte_cells)(text, &mut buffer), expected, "{}", input());
+            assert_eq!(buffer[..256], cells, "{}", input());
+            assert_eq!(buffer[256..], vec![0xA5; length - 256], "{}", input());
+        }
+    }
+}
+
+/// A byte table without `dot` lines that defines these bytes.
+fn defines(text: impl AsRef<[u8]>, bytes: &[(u8, u8)]) {
+    byte_table_is(text, Ok((bytes.len() as u32, cells_but(0xFF, bytes))));
+}
+
+/// Refused byte tables with number, line and column.
+fn bytes_refused<T: AsRef<[u8]>>(table: &[(T, [u32; 3])]) {
+    for (text, refusal) in table {
+        byte_table_is(text, Err(*refusal));
+    }
+}
+
+#[test]
+fn byte_tables() {
+    // The examples of document 002: its byte lines, its `dot` lines, both.
+    let bytes = "   byte a 1\n   b 12\n   c (14)\n   d ( 1  4   5    )\n   \\\\ 12567\n   \\x20 0\n";
+    let dots = "   dot 1 on\n   dot 2 off\n   dot 3 =fg-red\n   dot 4 ~bg-blue\n";
+    let lines = [(b'a', 0x01), (b'b', 0x03), (b'c', 0x09), (b'd', 0x19), (b'\\', 0x73), (b' ', 0x00)];
+    defines(bytes, &lines);
+    // Dot 1 and the four without a line are F1; dot 3 is 04 and goes by bit 04; dot 4 is 08 and is down where bit 10 is on.
+    let by_dots: [u8; 256] = std::array::from_fn(|byte| match (byte / 4 % 2, byte / 16 % 2) {
+        (0, 0) => 0xF9,
+        (0, _) => 0xF1,
+        (_, 0) => 0xFD,
+        _ => 0xF5,
+    });
+    byte_table_is(dots, Ok((0, by_dots)));
+    let mut both = by_dots;
+    lines.iter().for_each(|(byte, cell)| both[usize::from(*byte)] = *cell);
+    byte_table_is(format!("{bytes}{dots}"), Ok((6, both)));
+    byte_table_is(format!("{dots}{bytes}"), Ok((6, both)));
+    byte_table_is(format!("# x\r\n\r\n{dots}\n \t\n{bytes}"), Ok((6, both)));
+    // Its forms with a comment.
+    defines("byte a 1 # comment", &[(b'a', 1)]);
+    byte_table_is("dot 1 off # comment", Ok((0, [0xFE; 256])));
+}
+
+#[test]
+fn bytes_without_a_line() {
+    defines("", &[]);
+    defines("\n# a 1\n \t\r\n", &[]);
+    byte_table_is("dot 8 off", Ok((0, [0x7F; 256])));
+    byte_table_is("dot 8 on", Ok((0, [0xFF; 256])));
+    let all = |state: &str| (1..=8).map(|dot| format!("dot {dot} {state}\n")).collect::<String>();
+    byte_table_is(all("off"), Ok((0, [0; 256])));
+    byte_table_is(all("on"), Ok((0, [0xFF; 256])));
+    byte_table_is(all("=blink"), Ok((0, std::array::from_fn(|byte| if byte < 128 { 0 } else { 0xFF }))));
+    byte_table_is(all("~blink"), Ok((0, std::array::from_fn(|byte| if byte < 128 { 0xFF } else { 0 }))));
+    let names = ["fg-blue", "fg-green", "fg-red", "fg-bright", "bg-blue", "bg-green", "bg-red", "blink"];
+    let each = |sign: &str| (0..8).map(|d| format!("dot {} {sign}{}\n", d + 1, names[d])).collect::<String>();
+    byte_table_is(each("="), Ok((0, std::array::from_fn(|byte| byte as u8))));
+    byte_table_is(each("~"), Ok((0, std::array::from_fn(|byte| !(byte as u8)))));
+    // A byte with a line has that line's cell alone, wherever the `dot` lines stand.
+    let only = |byte: u8, cell: u8| Ok((1, cells_but(0, &[(byte, cell)])));
+    byte_table_is(all("off") + "a 12", only(b'a', 3));
+    byte_table_is("byte \\xFF 0\n".to_string() + &all("off"), only(0xFF, 0));
+    byte_table_is("dot 1 off\na 1\ndot 2 off\nb ()", Ok((2, cells_but(0xFC, &[(b'a', 1), (b'b', 0)]))));
+}
+
+#[test]
+fn every_byte() {
+    let cell = |byte: u8| byte.wrapping_mul(7);
+    let dots = |cell: u8| match cell {
+        0 => "0".to_string(),
+        _ => (1..=8).rev().filter(|dot| cell >> (dot - 1) & 1 == 1).map(|dot| dot.to_string()).collect(),
+    };
+    let cells: [u8; 256] = std::array::from_fn(|byte| cell(byte as u8));
+    let text = |form: fn(u8) -> String| -> String {
+        (0..=255).map(|byte| format!("{} {}\n", form(byte), dots(cell(byte)))).collect()
+    };
+    let hex = [
+        text(|byte| format!("\\x{byte:02x}")),
+        text(|byte| format!("\\X{byte:02x}")),
+        text(|byte| format!("byte \\x{byte:02X}")),
+        text(|byte| format!("\tbyte\t\\X{byte:02X}\t")),
+    ];
+    for text in hex {
+        byte_table_is(&text, Ok((256, cells)));
+        byte_table_is(format!("{text}dot 1 off\n"), Ok((256, cells)));
+        byte_table_is(format!("{text}a 1\n"), Err([11, 257, 1]));
+        byte_table_is(format!("{text}a 1 x\n"), Err([9, 257, 5]));
+    }
+    // As characters, but for whitespace, LF and the backslash.
+    let raw = |byte: u8| match byte {
+        b'\t' | b'\n' | b' ' | b'\\' => format!("\\x{byte:02X}"),
+        _ => char::from(byte).to_string(),
+    };
+    let text: String = (0..=255).map(|byte| format!("byte {} {}\n", raw(byte), dots(cell(byte)))).collect();
+    byte_table_is(text, Ok((256, cells)));
+    let text: String =
+        (0..=255).filter(|byte| *byte != b'#').map(|byte| format!("{} {}\n", raw(byte), dots(cell(byte)))).collect();
+    let mut but_number_sign = cells;
+    but_number_sign[usize::from(b'#')] = 0xFF;
+    byte_table_is(text, Ok((255, but_number_sign)));
+}
+
+#[test]
+fn byte_operands() {
+    defines(
+        "\\\\ 1\n\\x41 2\n\\X42 3\n\\xe9 4\n\\XEa 5\n\\xEB 6",
+        &[(b'\\', 0x01), (b'A', 0x02), (b'B', 0x04), (0xE9, 0x08), (0xEA, 0x10), (0xEB, 0x20)],
+    );
+    defines("é 1\nbyte ÿ 2\n\u{80} 3\n\u{A0} 4", &[(0xE9, 1), (0xFF, 2), (0x80, 4), (0xA0, 8)]);
+    defines("1 1\n( 2\n) 3\n0 0\n= 4", &[(b'1', 1), (b'(', 2), (b')', 4), (b'0', 0), (b'=', 8)]);
+    defines("byte # 1", &[(b'#', 1)]);
+    defines("\\x23 1", &[(b'#', 1)]);
+    defines("# 1\n#a 1\n \t# 1", &[]);
+    // Control characters that are no whitespace and no line end.
+    defines("\0 1\n\u{B} 2\nbyte \u{C} 3\n\u{7F} 4", &[(0x00, 1), (0x0B, 2), (0x0C, 4), (0x7F, 8)]);
+    defines("\r 1\r\n", &[(b'\r', 1)]);
+    defines("byte \r 1", &[(b'\r', 1)]);
+    defines("\\x0A 1\n\\x0d 2\n\\x09 3", &[(b'\n', 1), (b'\r', 2), (b'\t', 4)]);
+    let bad = [
+        "ab", "\\", "\\#", "\\s", "\\b", "\\t", "\\n", "\\v", "\\f", "\\r", "\\o101", "\\o377", "\\u0041",
+        "\\U00000041", "\\x", "\\x4", "\\x041", "\\X", "\\X4", "\\X041", "\\xg0", "\\x0g", "\\x+4", "\\x4\u{661}",
+        "\\\\\\", "\\\\x41", "\\é", "é\\", "\\x41\\", "Ā", "€", "𝄞", "\u{FFFD}", "\u{F061}", "\u{FEFF}a", "a\u{301}",
+        "éé", "aa#", "byte", "dot",
+    ];
+    for word in bad {
+        bytes_refused(&[
+            (format!("byte {word} 1"), [7, 1, 6]),
+            (format!("  byte\t \t{word}"), [7, 1, 10]),
+            (format!("b 1\nbyte {word} 9 x"), [7, 2, 6]),
+        ]);
+        if word != "byte" && word != "dot" {
+            bytes_refused(&[
+                (format!("{word} 1"), [7, 1, 1]),
+                (format!("\t {word}"), [7, 1, 3]),
+                (format!("b 1\r\n {word} 9 x\r\n"), [7, 2, 2]),
+            ]);
+        }
+    }
+    bytes_refused(&[("byte ## 1", [7, 1, 6]), ("byte #a 1", [7, 1, 6])]);
+}
+
+#[test]
+fn first_words() {
+    // Only these two, exactly; any other word is a byte operand.
+    let words = [
+        "Byte", "BYTE", "bytes", "byter", "byt", "byte#", "Dot", "DOT", "dots", "do", "dot#", "char", "glyph", "alias",
+        "else", "endIf", "ifGlyph", "ifCell", "include", "\u{FEFF}byte", "\u{FEFF}dot", "dot\u{A0}1", "byte\u{A0}a",
+    ];
+    for word in words {
+        bytes_refused(&[
+            (word.to_string(), [7, 1, 1]),
+            (format!("{word} 1"), [7, 1, 1]),
+            (format!("\n\t{word} a 1"), [7, 2, 2]),
+            (format!("a 1\n  {word} 1 off\n"), [7, 2, 3]),
+        ]);
+    }
+    bytes_refused(&[("byte\r\r\n", [7, 1, 1]), ("dot\r\r\n", [7, 1, 1])]);
+    // A byte table has no conditions and no blocks.
+    bytes_refused(&[("ifNotGlyph a\nb 1\nendIf", [7, 1, 1]), ("ifNotGlyph a byte b 1", [7, 1, 1])]);
+}
+
+#[test]
+fn missing_in_byte_tables() {
+    bytes_refused(&[
+        ("byte", [6, 1, 5]),
+        ("byte ", [6, 1, 6]),
+        ("byte a", [6, 1, 7]),
+        ("byte 1", [6, 1, 7]),
+        ("byte a \t", [6, 1, 9]),
+        ("byte #", [6, 1, 7]),
+        ("byte é", [6, 1, 8]),
+        ("\tbyte \\xE9", [6, 1, 11]),
+        ("dot", [6, 1, 4]),
+        ("dot 1", [6, 1, 6]),
+        ("b 1\n\ndot 8 \r\n", [6, 3, 7]),
+        ("a", [6, 1, 2]),
+        ("1", [6, 1, 2]),
+        ("é", [6, 1, 3]),
+        (" é \r\n", [6, 1, 5]),
+        ("\\\\", [6, 1, 3]),
+        ("a\r\n", [6, 1, 2]),
+        ("a\r", [6, 1, 2]),
+        ("a \r\n", [6, 1, 3]),
+        // A CR that is not of the line's end is a byte.
+        ("\r\r\n", [6, 1, 2]),
+        ("\r\r", [6, 1, 2]),
+        ("byte \r\n", [6, 1, 6]),
+        ("byte \r\r\n", [6, 1, 7]),
+    ]);
+    let full = format!("a{}", " ".repeat(1023));
+    bytes_refused(&[(full.clone(), [6, 1, 1025]), (full + "\r\n", [6, 1, 1025])]);
+}
+
+#[test]
+fn dots_in_byte_tables() {
+    for (word, dots) in [
+        ("0", 0),
+        ("()", 0),
+        ("( \t)", 0),
+        ("1", 1),
+        ("8", 128),
+        ("87654321", 255),
+        ("(12)", 3),
+        ("( 4 1 )", 9),
+        ("(8\t1)", 129),
+    ] {
+        defines(format!("a {word}"), &[(b'a', dots)]);
+        defines(format!("\tbyte\t\ta \t{word}\t#x\r\n"), &[(b'a', dots)]);
+    }
+    for word in [
+        "9", "11", "00", "01", "10", "121", "(11)", "(1 1)", "(0)", "(1 0)", "(9)", "(1 2", "(", "( ", ")", "(12)x",
+        "(12)#c", "12#c", "()()", "(1)2", "1(2)", "((1))", "(1))", "a", "+1", "1,2", "(1 # 2)", "(1\r)", "é", "#",
+        "#1",
+    ] {
+        bytes_refused(&[
+            (format!("a {word}"), [8, 1, 3]),
+            (format!("byte é \t{word}"), [8, 1, 10]),
+            (format!("#\n \\x61 {word} x"), [8, 2, 7]),
+        ]);
+    }
+    bytes_refused(&[
+        ("a # note", [8, 1, 3]),
+        ("byte a # 1", [8, 1, 8]),
+        ("a b 1", [8, 1, 3]),
+        ("a 1\r\r\n", [8, 1, 3]),
+        ("a (1 2)\r\r\n", [8, 1, 3]),
+        // Dot numbers.
+        ("dot 1\r\r\n", [8, 1, 5]),
+    ]);
+    for word in ["0", "9", "12", "(1)", "01", "1=blink", "#", "a", "+1", "\\x31", "1#", "é", "on"] {
+        bytes_refused(&[
+            (format!("dot {word} on"), [8, 1, 5]),
+            (format!("a 1\n\tdot  {word}"), [8, 2, 7]),
+            (format!("dot {word} x y"), [8, 1, 5]),
+        ]);
+    }
+}
+
+#[test]
+fn states_in_byte_tables() {
+    for word in [
+        "=", "~", "On", "ON", "Off", "OFF", "onn", "of", "=on", "~off", "on,off", "blink", "=Blink", "=fg-redd",
+        "=fg-", "#", "#off", "on#", "=fg-red#", "1", "é",
+    ] {
+        bytes_refused(&[(format!("dot 1 {word}"), [16, 1, 7]), (format!("\n dot 8 \t{word} x"), [16, 2, 9])]);
+    }
+    bytes_refused(&[
+        ("dot 1 = blink", [16, 1, 7]),
+        ("dot 1 # on", [16, 1, 7]),
+        ("dot 1 on\r # x", [16, 1, 7]),
+        ("dot 1 off\r\r\n", [16, 1, 7]),
+        ("dot 1 \r\r\n", [16, 1, 7]),
+    ]);
+    // An attributes table has neither.
+    for side in SIDES {
+        for text in ["dot 1 on", "dot 1 off"] {
+            let refusal = Err(Refusal { number: 16, place: 1, column: 7 });
+            assert_eq!((side.attribute_cell)(text.as_bytes(), 0), refusal, "{}", side.name);
+        }
+    }
+}
+
+#[test]
+fn text_behind_in_byte_tables() {
+    defines("a 1 #\nb 2 #x y\nbyte c (3)\t# # 1 \r\n", &[(b'a', 1), (b'b', 2), (b'c', 4)]);
+    byte_table_is("dot 1 off #\ndot 2 off\t#x y", Ok((0, [0xFC; 256])));
+    bytes_refused(&[
+        ("a 1 x", [9, 1, 5]),
+        ("byte a 1 x", [9, 1, 10]),
+        ("byte a 1 2", [9, 1, 10]),
+        ("byte 1 2 3", [9, 1, 10]),
+        ("a (1 2)  x # y", [9, 1, 10]),
+        ("a ()\t()", [9, 1, 6]),
+        ("é 1 \\#", [9, 1, 6]),
+        ("a 1 \r\r\n", [9, 1, 5]),
+        ("dot 1 on x", [9, 1, 10]),
+        ("dot 1 =blink  off", [9, 1, 15]),
+        ("a 1\r\n dot 2 ~fg-red\t1\r\n", [9, 2, 16]),
+    ]);
+}
+
+#[test]
+fn twice_in_byte_tables() {
+    bytes_refused(&[
+        // However the byte is written, at the first word of the line.
+        ("a 1\na 1", [11, 2, 1]),
+        ("a 1\nbyte a 2", [11, 2, 1]),
+        ("byte a 1\n  a 2", [11, 2, 3]),
+        ("a 1\n\\x61 2", [11, 2, 1]),
+        ("\\X61 1\n\t byte \\x61 2", [11, 2, 3]),
+        ("\\xeA 1\n\\xEa 2", [11, 2, 1]),
+        ("é 1\n \\xE9 2", [11, 2, 2]),
+        ("\\xe9 1\nbyte é 2 # x", [11, 2, 1]),
+        ("\\\\ 1\n\\x5c 1", [11, 2, 1]),
+        ("byte # 1\n\\x23 1", [11, 2, 1]),
+        ("\r 1\n\\x0D 1", [11, 2, 1]),
+        ("a 1\nb 2\n# c\n\nA 1\n a 1\r\n", [11, 6, 2]),
+        // Dots.
+        ("dot 1 on\ndot 1 on", [11, 2, 1]),
+        ("dot 1 on\n \tdot 1 =blink # x", [11, 2, 3]),
+        ("dot 8 off\na 1\nbyte b 1\n dot 8 on\n", [11, 4, 2]),
+        // After the other faults of the line.
+        ("a 1\na", [6, 2, 2]),
+        ("a 1\na 9", [8, 2, 3]),
+        ("a 1\n\\x61 1 x", [9, 2, 8]),
+        ("dot 1 on\ndot 1", [6, 2, 6]),
+        ("dot 1 on\ndot 1 x", [16, 2, 7]),
+        ("dot 1 on\ndot 1 off x", [9, 2, 11]),
+        // The first faulty line decides.
+        ("a 1\na 1\nbc", [11, 2, 1]),
+        ("bc 1\na 1\na 1", [7, 1, 1]),
+    ]);
+    defines("a 1\nA 2\n\\x01 3\n1 4", &[(b'a', 1), (b'A', 2), (0x01, 4), (b'1', 8)]);
+    // A byte and a dot are two.
+    byte_table_is("1 1\ndot 1 off", Ok((1, cells_but(0xFE, &[(b'1', 1)]))));
+}
+
+#[test]
+fn lengths_of_byte_tables() {
+    let line = |length: usize| format!("a 1{}", " ".repeat(length - 3));
+    defines(line(1024), &[(b'a', 1)]);
+    defines(line(1024) + "\r\n", &[(b'a', 1)]);
+    defines(line(1024) + "\r", &[(b'a', 1)]);
+    bytes_refused(&[
+        (line(1025), [3, 1, 1025]),
+        (line(1024) + "\r\r\n", [3, 1, 1025]),
+        (format!("a 1\n#{}", "x".repeat(1024)), [3, 2, 1025]),
+        (" ".repeat(1025), [3, 1, 1025]),
+        (format!("ab{}", " ".repeat(1023)), [3, 1, 1025]),
+    ]);
+    bytes_refused(&[([0xFFu8; 1025], [3, 1, 1025])]);
+    bytes_refused::<&[u8]>(&[
+        // The byte itself is no UTF-8.
+        (b"\xE9 1", [4, 1, 1]),
+        (b"byte \xE9 1", [4, 1, 6]),
+        (b"a 1\n# \xFF", [4, 2, 3]),
+        (b"\xC3\xA9 1 # \xC3", [4, 1, 8]),
+        (b"dot 1 \xE2\x82", [4, 1, 7]),
+        // Before any fault of the words.
+        (b"ab 9\xFF", [4, 1, 5]),
+        (b"a 1\na 1 \xFF", [4, 2, 5]),
+    ]);
+    defines("\n".repeat(65_536), &[]);
+    defines("\n".repeat(65_533) + "a 1", &[(b'a', 1)]);
+    bytes_refused(&[
+        ("\n".repeat(65_537), [1, 0, 0]),
+        ("\n".repeat(65_534) + "a 1", [1, 0, 0]),
+        ("ab\n".to_string() + &"\n".repeat(65_534), [1, 0, 0]),
+        ("\n".repeat(65_535) + "x", [6, 65_536, 2]),
+    ]);
+}
+
+#[test]
+fn editions() {
+    let texts = ["", "char a 1\n", "byte a 1\n", "dot 1 on\n", "x", "ifGlyph a", &"\n".repeat(65_537)];
+    // Also such as are 1 or 2 in fewer bits.
+    for edition in [0, 3, 4, 0x101, 0x102, 0x1_0001, 0x1_0002, 0x8000_0001, 0x8000_0002, u32::MAX - 1, u32::MAX] {
+        for text in texts {
+            for length in [0, 2047, 2048, 2050] {
+                for side in SIDES {
+                    let mut words = vec![0xA5A5_A5A5; length];
+                    let refusal = Err(Refusal { number: 20, place: 0, column: 0 });
+                    let got = (side.compile)(edition, text.as_bytes(), &mut words);
+                    assert_eq!(got, refusal, "{}: edition {edition:X}", side.name);
+                    assert_eq!(words, vec![0xA5A5_A5A5; length], "{}: edition {edition:X}", side.name);
+                }
+            }
+        }
+    }
+    // The same texts in both.
+    accepts("byte a 1", &[glyph_pair('a', 1)]);
+    defines("byte a 1", &[(b'a', 1)]);
+    for (text, number, old_number) in [
+        ("char a 1", 0, 7),
+        ("byte \\s 1", 0, 7),
+        ("byte \\o101 1", 0, 7),
+        ("a 1", 5, 0),
+        ("dot 1 on", 5, 0),
+        ("a", 5, 6),
+    ] {
+        for side in SIDES {
+            for (edition, number) in [(TEXT_EDITION, number), (BYTE_EDITION, old_number)] {
+                let got = (side.compile)(edition, text.as_bytes(), &mut [0; WORDS]);
+                assert_eq!(got.map_or_else(|refusal| refusal.number, |_| 0), number, "{}: {text:?}", side.name);
+            }
+        }
+    }
 }

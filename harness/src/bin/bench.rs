@@ -2,7 +2,9 @@
 
 use harness::generate::backward_chain_text;
 use harness::random::Random;
-use harness::reference::{self, Refusal, Window, CELLS, LINE_BYTES, PAIRS, TEXT_BYTES, WORDS};
+use harness::reference::{
+    self, Refusal, Window, BYTE_EDITION, CELLS, LINE_BYTES, PAIRS, TEXT_BYTES, TEXT_EDITION, WORDS,
+};
 use harness::side::{Side, SIDES};
 use std::ffi::OsString;
 use std::hint::black_box;
@@ -173,12 +175,12 @@ fn main() {
     }
     println!("library: libheathdapple.a by the Rust package. reference: the same algorithm in plain Rust (linear scans, walks");
     println!("by scanning), but for UTF-8, which is the standard library's. hashed: a HashMap from character to meaning, built");
-    println!("anew by each call; it has no attributes table of its own, there the column is the reference again. Release build.");
-    println!("Buffers (words, cells, rules, entries) are filled once before the first call and not cleared between calls, on every");
-    println!("side. Processor time of a call. One process for each program that is named (harness/run names {PROCESSES}, each with its code");
-    println!("at another place); in each the sides take turns, {ROUNDS} rounds and their median. Shown: the median of the processes, of");
-    println!("times and of ratios, and the lowest and highest ratio of a process. Before timing, the three sides' answers and");
-    println!("buffers were compared.");
+    println!("anew by each call; it has no attributes table and no byte table of its own, there the column is the reference again.");
+    println!("Release build. Buffers (words, cells, rules, entries) are filled once before the first call and not cleared between");
+    println!("calls, on every side. Processor time of a call. One process for each program that is named (harness/run names {PROCESSES},");
+    println!("each with its code at another place); in each the sides take turns, {ROUNDS} rounds and their median. Shown: the median of");
+    println!("the processes, of times and of ratios, and the lowest and highest ratio of a process. Before timing, the three sides'");
+    println!("answers and buffers were compared.");
     let mut runs = Vec::new();
     for program in programs {
         let output = Command::new(&program).arg("once").stderr(Stdio::inherit()).output().expect("a process");
@@ -257,7 +259,7 @@ fn failing_conditions() -> String {
 
 fn table(text: &str) -> Vec<u32> {
     let mut words = vec![0; WORDS];
-    reference::compile(text.as_bytes(), &mut words).expect("an accepted text");
+    reference::compile(TEXT_EDITION, text.as_bytes(), &mut words).expect("an accepted text");
     words
 }
 
@@ -291,7 +293,7 @@ type Size<'a> = (&'a str, &'a [u32], usize);
 
 fn compile_row(name: &str, text: &str) {
     assert!(text.len() <= TEXT_BYTES);
-    row(name, vec![0xA5A5_A5A5; WORDS], |side, words| (side.compile)(black_box(text.as_bytes()), words));
+    row(name, vec![0xA5A5_A5A5; WORDS], |side, words| (side.compile)(TEXT_EDITION, black_box(text.as_bytes()), words));
 }
 
 fn page_row(name: &str, words: &[u32], characters: &[u32]) {
@@ -372,6 +374,20 @@ fn attribute_rows() {
     row("attribute_cells", [0; CELLS], |side, cells| (side.attribute_cells)(black_box(text), cells));
 }
 
+/// A byte line for every byte, in turn with the word and without it.
+fn byte_lines() -> String {
+    let word = |byte: u8| if byte.is_multiple_of(2) { "byte " } else { "" };
+    (0..=255).map(|byte| format!("{}\\x{byte:02X} {}\n", word(byte), 1 + byte % 8)).collect()
+}
+
+fn byte_rows() {
+    let text = byte_lines();
+    let text = text.as_bytes();
+    heading("byte tables, 256 byte lines");
+    row("compile, edition 1", (), |side, ()| (side.compile)(BYTE_EDITION, black_box(text), &mut []));
+    row("byte_cells", [0; CELLS], |side, cells| (side.byte_cells)(black_box(text), cells));
+}
+
 fn check_rows(small: &[u32], large: &[u32], chain: &[u32], forward_chain: &[u32]) {
     heading("check alone (an empty page)");
     page_row("1 definition", &table(&definitions(1)), &[]);
@@ -437,4 +453,5 @@ fn measure() {
     falling_rows(sizes);
     typed_rows(sizes);
     attribute_rows();
+    byte_rows();
 }
