@@ -20,7 +20,7 @@
 //! let mut words = [0; TABLE_WORDS];
 //! let refusal = compile(TEXT_EDITION, b"char a 1\n\nifCell 1 glyph a 2\n", &mut words).unwrap_err();
 //! assert_eq!((refusal.number, refusal.place, refusal.column), (11, 3, 10));
-//! assert_eq!(refusal.to_string(), "line 3, column 10: character or dot already defined (refusal 11)");
+//! assert_eq!(refusal.to_string(), "line 3, column 10: character, byte or dot already defined (refusal 11)");
 //! ```
 //!
 //! Linking needs `libheathdapple.a`: `rt staticlib heathdapple` in the repository's root builds it, and
