@@ -1,3 +1,4 @@
 pub mod Reader
 pub mod Compile
 pub mod Cells
+pub mod Refusals

@@ -22,11 +22,11 @@ ghost use Rattle.attributes.specs.Internal.{DotWithin};
 ghost use Rattle.lines.specs.Lines.{withoutCR};
 ghost use Rattle.lines.specs.Texts.{textLimit, outcomeColumn, compiledReply, compiledColumn};
 
-// A line as read: what an attributes table has too, or a byte with its cell and the number of bytes from the line's first
-// word to its end.
+// A line as read: what an attributes table has too, or a byte with its cell; its first word begins `left` bytes before its
+// end.
 pub enum TableLine {
     Common(DotLine),
-    Byte(u8, u8, usize),
+    Byte { byte: u8, cell: u8, left: usize },
 }
 
 // The cell of a byte, where a line gave it one.
@@ -138,7 +138,11 @@ fn byte_line(line: &[u8], at: usize, left: usize) -> TableLine
             DotsOperand::Value(cell, end) => finish(
                 line,
                 end,
-                TableLine::Byte(byte as u8, cell, left),
+                TableLine::Byte {
+                    byte: byte as u8,
+                    cell,
+                    left,
+                },
             ),
         },
     }
@@ -190,7 +194,11 @@ fn byte_in(read: TableLine) -> u8
 {
     match read {
         TableLine::Common(_) => 0,
-        TableLine::Byte(byte, _, _) => byte,
+        TableLine::Byte {
+            byte,
+            cell: _,
+            left: _,
+        } => byte,
     }
 }
 
@@ -251,7 +259,11 @@ fn take_line(dots: DotStates, asked: Slot, read: TableLine) -> Stepped
 {
     match read {
         TableLine::Common(common) => take_common(dots, asked, common),
-        TableLine::Byte(_, cell, left) => take_byte(dots, asked, cell, left),
+        TableLine::Byte {
+            byte: _,
+            cell,
+            left,
+        } => take_byte(dots, asked, cell, left),
     }
 }
 

@@ -127,6 +127,32 @@ module _ {S A : Type 0} (count : S → ℕ) (table : Outcome S → A) where
       → outcome ≡ rejected refusal n column → answer ≡ Refused refusal n column → handed ≡ table (rejected refusal n column) → Ensured outcome answer handed
   text-refused outcome q e p = (rw (q, e), (rw (q, e), rw q p))
 
+-- ---- which refusals there are
+
+-- what holds of 1 and of each line's refusal holds of a text's
+module _ {S : Type 0} (P : Refusal → Type 0) where
+  abbrev pub StopsBy : Step S → Type 0
+  StopsBy (next s) = Unit {0}
+  StopsBy (stop refusal left) = P refusal
+
+  abbrev pub RefusedBy : Outcome S → Type 0
+  RefusedBy (accepted s) = Unit {0}
+  RefusedBy (rejected refusal n column) = P refusal
+
+  module _ (step : S → List ℕ → Step S) (each : (s : S) (line : List ℕ) → StopsBy (step s line)) where
+    on-stop : (a : Step S) (line : List ℕ) (n : ℕ) (rest : S → Outcome S) → StopsBy a → ((s : S) → RefusedBy (rest s)) → RefusedBy (onStep a line n rest)
+    on-stop (next s) line n rest h more = more s
+    on-stop (stop refusal left) line n rest h more = h
+
+    lines-refused : (ls : List (List ℕ)) (n : ℕ) (s : S) → RefusedBy (runLines step ls n s)
+    unfolding runLines
+    lines-refused [] n s = tt
+    lines-refused (l ∷ ls) n s = on-stop (step s (withoutCR l)) (withoutCR l) n (λ s′. runLines step ls (n + 1) s′) (each s (withoutCR l)) (λ s′. lines-refused ls (n + 1) s′)
+
+    pub run-refused : (s : S) (text : List ℕ) → P TextTooLong → RefusedBy (runText step s text)
+    unfolding runText
+    run-refused s text h = either RefusedBy (ltb textLimit (length text)) h (lines-refused (linesOf text) 1 s)
+
 -- ---- columns
 
 -- where a line that is too long is refused at the first byte too many, no column lies beyond that byte
