@@ -1,4 +1,4 @@
--- The cell of a VGA attribute byte.
+-- The cell of a VGA attribute byte, or of any byte, by the states of the eight dots.
 use Prim.Native.Nat.{ℕ, _+_, _/_, _%_, _^_}
 use mathlib.Core.Bool.{Bool, true, false, not}
 use mathlib.Core.List.{List, [], _∷_}

@@ -1,4 +1,5 @@
 -- Reading a line of an attributes table: `dot`, a dot number, a state. Faults 5, 6, 8, 9 and 16 as met from left to right.
+-- From behind `dot` on a line of a byte table reads the same, but for two states more.
 use Prim.Native.Nat.{ℕ, _-_}
 use mathlib.Core.Bool.{Bool, false, _&&_}
 use mathlib.Core.List.{List}

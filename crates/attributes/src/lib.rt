@@ -1,4 +1,5 @@
-// Attributes tables: from a VGA attribute byte to its cell.
+// Attributes tables: from a VGA attribute byte to its cell. And what byte tables share with them: `dot` lines, and the cell
+// of a byte by the states of the dots.
 use basics::Refusal;
 use lines::Compiled;
 use lines::Opening;

@@ -50,21 +50,21 @@ pub common-within : {read : TableLine} {k : DotLine} → LineWithin read → rea
 common-within h q = rw q at h
 
 -- the whole table with the parts that a line leaves
-abbrev pub with : List Slot → ℕ → ℕ → Stepped → Step SoFar
-with slots count i r = leaves (r .stopped) (soFar (set slots i (r .slot)) (r .dots) (count + r .counted))
+abbrev tableWith : List Slot → ℕ → ℕ → Stepped → Step SoFar
+tableWith slots count i r = leaves (r .stopped) (soFar (set slots i (r .slot)) (r .dots) (count + r .counted))
 
 -- which is what the line does
-common-done : (slots : List Slot) (dots : DotStates) (count i : ℕ) (a : Step DotStates) → with slots count i (commonTaken dots (getD slots i (slot Absent)) a) ≡ withDots (soFar slots dots count) a
+common-done : (slots : List Slot) (dots : DotStates) (count i : ℕ) (a : Step DotStates) → tableWith slots count i (commonTaken dots (getD slots i (slot Absent)) a) ≡ withDots (soFar slots dots count) a
 common-done slots dots count i (next more) = rw (set-getD slots i (slot Absent), add-zero count)
 common-done slots dots count i (stop refusal left) = refl
 
 byte-done : (slots : List Slot) (dots : DotStates) (asked : Slot) (earlier : Cell) (count byte cell left : ℕ)
-    → with slots count byte (byteTaken earlier dots asked cell left) ≡ withByte (soFar slots dots count) earlier byte cell left
+    → tableWith slots count byte (byteTaken earlier dots asked cell left) ≡ withByte (soFar slots dots count) earlier byte cell left
 byte-done slots dots asked Absent count byte cell left = refl
 byte-done slots dots asked (Dots c) count byte cell left = refl
 
 line-done : (slots : List Slot) (dots : DotStates) (count : ℕ) (read : TableLine)
-    → with slots count (byteIn read) (lineTaken dots (getD slots (byteIn read) (slot Absent)) read) ≡ withLine (soFar slots dots count) read
+    → tableWith slots count (byteIn read) (lineTaken dots (getD slots (byteIn read) (slot Absent)) read) ≡ withLine (soFar slots dots count) read
 line-done slots dots count (Common read) = common-done slots dots count 0 (withDot dots read)
 line-done slots dots count (Byte byte cell left) = byte-done slots dots (getD slots byte (slot Absent)) (getD slots byte (slot Absent) .cell) count byte cell left
 
@@ -83,7 +83,7 @@ long-text text h = text-long step begun text h
 module _ (text : List ℕ) (at n : ℕ) (slots : List Slot) (dots : DotStates) (count : ℕ) (here : Reached step text (compiledBytes text) at n (soFar slots dots count))
     (e : ℕ) (some : at < length text) (ends : LineEnd text at e) (read : TableLine) (reads : read ≡ readTableLine (withoutCR (take (e - at) (drop at text))))
     (byte : ℕ) (asks : byte ≡ byteIn read) (r : Stepped) (taken : r ≡ lineTaken dots (getD slots byte (slot Absent)) read) where
-  does : with slots count byte r ≡ step (soFar slots dots count) (withoutCR (take (e - at) (drop at text)))
+  does : tableWith slots count byte r ≡ step (soFar slots dots count) (withoutCR (take (e - at) (drop at text)))
   unfolding step
   does = rw (taken, asks, ← reads) (line-done slots dots count read)
 
