@@ -24,7 +24,7 @@ use Rattle.attributes.specs.declared.Place.{Place}
 use Rattle.attributes.specs.Cells.{attributeCell}
 use Rattle.attributes.specs.Compile.{compiledAttributes, attributesReply, outcomePlaces}
 use Rattle.byte_tables.specs.Compile.{compiledBytes, outcomeCells}
-use Rattle.heathdapple.specs.Codes.{refusalCode, codeOf, characterCode, cellCount, withRoom, columnWithRoom, after, entryCode, entriesAfter, numbersFrom, cellsOf, cellsAfter, bytesAfter}
+use Rattle.heathdapple.specs.Codes.{refusalCode, codeOf, characterCode, cellCount, withRoom, columnWithRoom, after, entryCode, entriesAfter, numbersFrom, cellsOf, cellsAfter, byteCellsAfter}
 use Rattle.heathdapple.specs.Internal.{EntriesFit}
 use Rattle.heathdapple.proofs.Codes.{code-of}
 
@@ -126,8 +126,8 @@ pub cells-left : (text : List ℕ) {v w : Compiled} {places : List Place} (old :
 cells-left text old long p from q e = long-left compiledReply (cellsOf (outcomePlaces (compiledAttributes text))) old long p q (rw from at e)
 
 -- the cells of a byte table are written also where its text is refused
-pub bytes-short : (text old : List ℕ) → length old < cellCount → old ≡ bytesAfter text old
+pub bytes-short : (text old : List ℕ) → length old < cellCount → old ≡ byteCellsAfter text old
 bytes-short text old short = rw (lt-ltb (length old) cellCount short)
 
-pub bytes-left : (text : List ℕ) {all : List ℕ} (old : List ℕ) {left : List ℕ} → cellCount ≤ length old → all ≡ outcomeCells (compiledBytes text) → left ≡ over all old → left ≡ bytesAfter text old
+pub bytes-left : (text : List ℕ) {all : List ℕ} (old : List ℕ) {left : List ℕ} → cellCount ≤ length old → all ≡ outcomeCells (compiledBytes text) → left ≡ over all old → left ≡ byteCellsAfter text old
 bytes-left text old long from e = rw (le-ltb (length old) cellCount long, ← from) e

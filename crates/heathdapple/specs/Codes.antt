@@ -14,8 +14,7 @@ use Rattle.typing.specs.Typing.{typingReply, typingEntries, typedBy}
 use Rattle.attributes.specs.declared.Place.{Place}
 use Rattle.attributes.specs.Cells.{attributeCell}
 use Rattle.attributes.specs.Compile.{compiledAttributes, attributesReply, outcomePlaces}
-use Rattle.byte_tables.specs.Compile.{compiledBytes, outcomeCells}
-use Rattle.byte_tables.specs.Compile as Bytes
+use Rattle.byte_tables.specs.Compile.{compiledBytes, bytesReply, outcomeCells}
 
 -- a refusal: its number × 2^48 + its column × 2^32 + its place; a column beyond 2^16 − 1 is given as that, a place beyond
 -- 2^32 − 1 as that
@@ -102,11 +101,11 @@ abbrev pub cellsAfter : List ℕ → List ℕ → List ℕ
 cellsAfter text old = after (cellsReply text (length old)) (cellsOf (outcomePlaces (compiledAttributes text))) old
 
 -- the cells of all bytes of a byte table: those of a refused text are written too
-abbrev pub bytesReply : List ℕ → ℕ → Reply ℕ
-bytesReply text room = withRoom room (Bytes.bytesReply (compiledBytes text))
+abbrev pub byteCellsReply : List ℕ → ℕ → Reply ℕ
+byteCellsReply text room = withRoom room (bytesReply (compiledBytes text))
 
-abbrev pub bytesColumn : List ℕ → ℕ → ℕ
-bytesColumn text room = columnWithRoom room (outcomeColumn (compiledBytes text))
+abbrev pub byteCellsColumn : List ℕ → ℕ → ℕ
+byteCellsColumn text room = columnWithRoom room (outcomeColumn (compiledBytes text))
 
-abbrev pub bytesAfter : List ℕ → List ℕ → List ℕ
-bytesAfter text old = pick (ltb (length old) cellCount) old (over (outcomeCells (compiledBytes text)) old)
+abbrev pub byteCellsAfter : List ℕ → List ℕ → List ℕ
+byteCellsAfter text old = pick (ltb (length old) cellCount) old (over (outcomeCells (compiledBytes text)) old)

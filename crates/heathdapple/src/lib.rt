@@ -18,7 +18,7 @@ ghost use Rattle.lines.specs.Texts.{compiledReply, compiledColumn};
 ghost use Rattle.editions.specs.Editions.{editionReply, editionColumn, editionWords};
 ghost use Rattle.lookup.specs.Calls.{lookupReply, pagePlan, over, Pages};
 ghost use Rattle.windows.specs.Windows.{PagesWindows};
-ghost use Rattle.heathdapple.specs.Codes.{refusalCode, compileCode, answerCode, lookupCode, fillingCode, characterCode, typedCode, attributeCode, cellCount, entriesReply, entryCode, entriesAfter, cellsReply, cellsColumn, cellsOf, cellsAfter, bytesReply, bytesColumn, bytesAfter};
+ghost use Rattle.heathdapple.specs.Codes.{refusalCode, compileCode, answerCode, lookupCode, fillingCode, characterCode, typedCode, attributeCode, cellCount, entriesReply, entryCode, entriesAfter, cellsReply, cellsColumn, cellsOf, cellsAfter, byteCellsReply, byteCellsColumn, byteCellsAfter};
 ghost use Rattle.heathdapple.specs.Internal.{EntriesFit};
 
 // A number, or the most that may be given for it.
@@ -264,8 +264,8 @@ fn put_bytes(all: [u8; 256], cells: &mut [u8])
 // byte lines, or the refusal with its line and column.
 #[no_mangle]
 pub extern "C" fn heathdapple_byte_cells(text: &[u8], cells: &mut [u8]) -> u64
-    ensures code { λ r. ⌜ r ≡ compileCode (bytesColumn (now (text .entry)) (length (now (cells .entry)))) (bytesReply (now (text .entry)) (length (now (cells .entry)))) ⌝ }
-    ensures cells { λ r. ⌜ now (cells .exit) ≡ bytesAfter (now (text .entry)) (now (cells .entry)) ⌝ }
+    ensures code { λ r. ⌜ r ≡ compileCode (byteCellsColumn (now (text .entry)) (length (now (cells .entry)))) (byteCellsReply (now (text .entry)) (length (now (cells .entry)))) ⌝ }
+    ensures cells { λ r. ⌜ now (cells .exit) ≡ byteCellsAfter (now (text .entry)) (now (cells .entry)) ⌝ }
 {
     if cells.len() < CELL_COUNT {
         return refusal_code(Refusal::ShortSlice, 0, 0);
