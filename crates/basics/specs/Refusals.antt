@@ -27,6 +27,7 @@ numberOf R.StrayBlockWord = 17
 numberOf R.UnclosedBlock = 18
 numberOf R.BeyondPage = 19
 numberOf R.UnknownEdition = 20
+numberOf R.UnknownCharset = 21
 
 -- what a call answers: its value, or the number and the place of its refusal
 pub data Reply (A : Type 0) : Type 0 where

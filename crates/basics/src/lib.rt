@@ -24,6 +24,7 @@ pub enum Refusal {
     UnclosedBlock,
     BeyondPage,
     UnknownEdition,
+    UnknownCharset,
 }
 
 // A character, where there is one: a base character, a stand-in, an alias target, what a cell types.
@@ -71,5 +72,6 @@ pub fn number_of(refusal: Refusal) -> u8
         Refusal::UnclosedBlock => 18,
         Refusal::BeyondPage => 19,
         Refusal::UnknownEdition => 20,
+        Refusal::UnknownCharset => 21,
     }
 }

@@ -1,14 +1,18 @@
 -- One line more, and the lines of a text one after another.
 use Prim.Native.Nat.{ℕ, _+_, _-_, _≤_, _<_}
 use mathlib.Core.Path.{_≡_, refl}
+use mathlib.Core.Bool.{Bool, true, false, not}
 use mathlib.Core.List.{List}
 use native.Mathlib.Nat.{add-zero}
+use native.Mathlib.Omega.{arith}
 use lib.ListN.{length, take, drop, getD, set, replicate}
 use lib.Seq.{set-getD}
-use borrow.Author.Tests.{lt-ltb}
+use borrow.Author.Tests.{lt-ltb, not-true, not-false}
+use Rattle.basics.proofs.Tests.{told, by-cases}
 use Rattle.basics.specs.declared.Refusal.{Refusal}
-use Rattle.basics.specs.declared.Refusal.the-variants.{TextTooLong, LineTooLong}
-use Rattle.lines.specs.Texts.{textLimit, lineLimit, openingOf, Step, next, stop, columnOf, rejected, outcomeColumn}
+use Rattle.basics.specs.declared.Refusal.the-variants.{TextTooLong, LineTooLong, UnknownCharset}
+use Rattle.unicode.specs.Characters.{isCharset}
+use Rattle.lines.specs.Texts.{textLimit, lineLimit, openingOf, Step, next, stop, columnOf, rejected, runText, outcomeColumn}
 use Rattle.lines.specs.Lines.{withoutCR}
 use Rattle.lines.specs.Internal.{LineEnd, leaves}
 use Rattle.lines.specs.declared.Stopped.{Stopped}
@@ -70,35 +74,46 @@ line-done slots dots count (Byte byte cell left) = byte-done slots dots (getD sl
 
 -- ---- the lines of a text
 
-pub come-first : (text : List ℕ) (dots : DotStates) → length text ≤ textLimit → dots ≡ dotStates allUnnamed 0
-    → Reached step text (compiledBytes text) 0 1 (soFar (replicate byteCount (slot Absent)) dots 0)
+pub come-first : (charset : ℕ) (text : List ℕ) (dots : DotStates) → isCharset charset ≡ true → length text ≤ textLimit → dots ≡ dotStates allUnnamed 0
+    → Reached (step charset) text (compiledBytes charset text) 0 1 (soFar (replicate byteCount (slot Absent)) dots 0)
 unfolding compiledBytes
-come-first text dots short e = rw e (text-first step begun text short)
+come-first charset text dots known short e = rw (e, known) (text-first (step charset) begun text short)
 
-pub long-text : (text : List ℕ) → textLimit < length text → compiledBytes text ≡ rejected TextTooLong 0 0
-unfolding compiledBytes
-long-text text h = text-long step begun text h
+-- k is what a call answered of the set
+module _ (charset : ℕ) (text : List ℕ) (k : Bool) (is : k ≡ isCharset charset) where
+  pub no-set : not k ≡ true → compiledBytes charset text ≡ rejected UnknownCharset 0 0
+  unfolding compiledBytes
+  no-set q = rw (told is (not-true k q))
+
+  pub known-set : not k ≡ false → isCharset charset ≡ true
+  known-set q = told is (not-false k q)
+
+  pub long-text : not k ≡ false → textLimit < length text → compiledBytes charset text ≡ rejected TextTooLong 0 0
+  unfolding compiledBytes
+  long-text q h = rw (known-set q) (text-long (step charset) begun text h)
 
 -- the next line ends at e, is read so and asks for the slot of a byte; r is what the call on it left
-module _ (text : List ℕ) (at n : ℕ) (slots : List Slot) (dots : DotStates) (count : ℕ) (here : Reached step text (compiledBytes text) at n (soFar slots dots count))
-    (e : ℕ) (some : at < length text) (ends : LineEnd text at e) (read : TableLine) (reads : read ≡ readTableLine (withoutCR (take (e - at) (drop at text))))
+module _ (charset : ℕ) (text : List ℕ) (at n : ℕ) (slots : List Slot) (dots : DotStates) (count : ℕ) (here : Reached (step charset) text (compiledBytes charset text) at n (soFar slots dots count))
+    (e : ℕ) (some : at < length text) (ends : LineEnd text at e) (read : TableLine) (reads : read ≡ readTableLine charset (withoutCR (take (e - at) (drop at text))))
     (byte : ℕ) (asks : byte ≡ byteIn read) (r : Stepped) (taken : r ≡ lineTaken dots (getD slots byte (slot Absent)) read) where
-  does : tableWith slots count byte r ≡ step (soFar slots dots count) (withoutCR (take (e - at) (drop at text)))
+  does : tableWith slots count byte r ≡ step charset (soFar slots dots count) (withoutCR (take (e - at) (drop at text)))
   unfolding step
   does = rw (taken, asks, ← reads) (line-done slots dots count read)
 
   pub taken-refused : (refusal : Refusal) (left : ℕ) {column : ℕ} → r .stopped ≡ By refusal left → column ≡ columnOf (withoutCR (take (e - at) (drop at text))) left
-      → compiledBytes text ≡ rejected refusal n column
-  taken-refused refusal left q c = line-refused step text (compiledBytes text) at n _ here e _ _ some ends does refusal left q c
+      → compiledBytes charset text ≡ rejected refusal n column
+  taken-refused refusal left q c = line-refused (step charset) text (compiledBytes charset text) at n _ here e _ _ some ends does refusal left q c
 
-  pub taken-read : r .stopped ≡ No → Reached step text (compiledBytes text) (e + 1) (n + 1) (soFar (set slots byte (r .slot)) (r .dots) (count + r .counted))
-  taken-read q = line-read step text (compiledBytes text) at n _ here e _ _ some ends does q
+  pub taken-read : r .stopped ≡ No → Reached (step charset) text (compiledBytes charset text) (e + 1) (n + 1) (soFar (set slots byte (r .slot)) (r .dots) (count + r .counted))
+  taken-read q = line-read (step charset) text (compiledBytes charset text) at n _ here e _ _ some ends does q
 
-step-long : (s : SoFar) (line : List ℕ) → lineLimit < length line → step s line ≡ stop LineTooLong (length line - lineLimit)
+step-long : (charset : ℕ) (s : SoFar) (line : List ℕ) → lineLimit < length line → step charset s line ≡ stop LineTooLong (length line - lineLimit)
 unfolding step readTableLine openingOf
-step-long s line h = rw (lt-ltb lineLimit (length line) h)
+step-long charset s line h = rw (lt-ltb lineLimit (length line) h)
 
 -- no column lies beyond the first byte that a line has too many
-pub bytes-column : (text : List ℕ) → outcomeColumn (compiledBytes text) ≤ lineLimit + 1
+pub bytes-column : (charset : ℕ) (text : List ℕ) → outcomeColumn (compiledBytes charset text) ≤ lineLimit + 1
 unfolding compiledBytes
-bytes-column text = run-column step step-long begun text
+bytes-column charset text =
+    let read : outcomeColumn (runText (step charset) begun text) ≤ lineLimit + 1 = run-column (step charset) (step-long charset) begun text in
+    by-cases (isCharset charset) (λ e. rw e read) (λ e. rw e (omega arith))

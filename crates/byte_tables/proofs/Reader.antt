@@ -10,8 +10,6 @@ use Rattle.basics.specs.Ascii.{ascii}
 use Rattle.basics.specs.Choice.{pick}
 use Rattle.basics.proofs.Tests.{either}
 use Rattle.basics.specs.declared.Refusal.the-variants.{MissingOperand, TrailingText}
-use Rattle.basics.specs.declared.Maybe.{Maybe}
-use Rattle.basics.specs.declared.Maybe.the-variants.{Character}
 use Rattle.lines.specs.Lines.{withoutCR}
 use Rattle.lines.specs.Words.{wordAt, bytesOf, isMissing, sameBytes, isOver}
 use Rattle.lines.specs.declared.Word.{Word}
@@ -22,8 +20,8 @@ use Rattle.operands.specs.declared.Operand.the-variants as O
 use Rattle.operands.specs.declared.DotsOperand.{DotsOperand}
 use Rattle.operands.specs.declared.DotsOperand.the-variants as D
 use Rattle.attributes.specs.Reader.{dotAt}
-use Rattle.byte_tables.specs.Reader.{isByteForm, byteOf, byteAt, fault, finished, byteLine, tableLine, readTableLine}
-use Rattle.byte_tables.specs.Internal.{EightBits, ByteWithin, LineWithin}
+use Rattle.byte_tables.specs.Reader.{isByteForm, formByte, byteAt, fault, finished, byteLine, tableLine, readTableLine}
+use Rattle.byte_tables.specs.Internal.{ByteWithin, LineWithin}
 use Rattle.byte_tables.specs.declared.TableLine.{TableLine}
 use Rattle.byte_tables.specs.declared.TableLine.the-variants.{Common, Byte}
 
@@ -38,14 +36,10 @@ lone-backslash (b ∷ []) h e = rw (eq-eqb b backslash e)
 lone-backslash (b ∷ c ∷ r) h e = absurd (omega arith)
 
 -- the operand by the word w that a call found
-pub by-word : (line : List ℕ) (at : ℕ) (w : Word) {v : Operand} → w ≡ wordAt line at
-    → v ≡ pick (isMissing w) (O.Fault MissingOperand 0) (wordOperand (byteOf (bytesOf line w)) line w) → v ≡ byteAt line at
+pub by-word : (charset : ℕ) (line : List ℕ) (at : ℕ) (w : Word) {v : Operand} → w ≡ wordAt line at
+    → v ≡ pick (isMissing w) (O.Fault MissingOperand 0) (wordOperand (formByte charset (bytesOf line w)) line w) → v ≡ byteAt charset line at
 unfolding byteAt
-by-word line at w e q = rw (← e) q
-
--- what is known of a byte that is there
-pub eight-bits : (r : Maybe) (byte : ℕ) → EightBits r → r ≡ Character byte → byte < 256
-eight-bits r byte h q = rw q at h
+by-word charset line at w e q = rw (← e) q
 
 module _ (o : Operand) (byte after n : ℕ) (h : ByteWithin o n) (q : o ≡ O.Value byte after) where
   pub byte-small : byte < 256
@@ -57,11 +51,11 @@ module _ (o : Operand) (byte after n : ℕ) (h : ByteWithin o n) (q : o ≡ O.Va
 pub rest-word : (line : List ℕ) (at : ℕ) (w : Word) → w ≡ wordAt line at → fault TrailingText (length line - w .start) ≡ fault TrailingText (length line - wordAt line at .start)
 rest-word line at w e = rw e
 
-pub first-word : (line : List ℕ) (w : Word) (r : TableLine) → w ≡ wordAt line 0
+pub first-word : (charset : ℕ) (line : List ℕ) (w : Word) (r : TableLine) → w ≡ wordAt line 0
     → r ≡ pick (sameBytes (bytesOf line w) (ascii "dot")) (Common (dotAt true line (w .end) (length line - w .start)))
-    (pick (sameBytes (bytesOf line w) (ascii "byte")) (byteLine line (w .end) (length line - w .start)) (byteLine line (w .start) (length line - w .start))) → r ≡ tableLine line
+    (pick (sameBytes (bytesOf line w) (ascii "byte")) (byteLine charset line (w .end) (length line - w .start)) (byteLine charset line (w .start) (length line - w .start))) → r ≡ tableLine charset line
 unfolding tableLine
-first-word line w r e h = rw (← e) h
+first-word charset line w r e h = rw (← e) h
 
 -- a byte line reads no dot
 dots-apart : (line : List ℕ) (byte left : ℕ) (o : DotsOperand) → LineWithin (ifDotsValue o fault (λ cell end. finished line end (Byte byte cell left)))
@@ -73,10 +67,10 @@ byte-apart : (line : List ℕ) (left : ℕ) (o : Operand)
 byte-apart line left (O.Fault refusal place) = tt
 byte-apart line left (O.Value byte after) = dots-apart line byte left (dotsOperandAt true line after)
 
-pub no-dot : (line : List ℕ) (at left : ℕ) (r : TableLine) → r ≡ byteLine line at left → LineWithin r
+pub no-dot : (charset : ℕ) (line : List ℕ) (at left : ℕ) (r : TableLine) → r ≡ byteLine charset line at left → LineWithin r
 unfolding byteLine
-no-dot line at left r e = rw e (byte-apart line left (byteAt line at))
+no-dot charset line at left r e = rw e (byte-apart line left (byteAt charset line at))
 
 -- n bytes of a line stand before its CR
-pub trimmed-line : (line : List ℕ) (n : ℕ) (r : TableLine) → take n line ≡ withoutCR line → r ≡ readTableLine (take n line) → r ≡ readTableLine (withoutCR line)
-trimmed-line line n r c e = rw (← c) e
+pub trimmed-line : (charset : ℕ) (line : List ℕ) (n : ℕ) (r : TableLine) → take n line ≡ withoutCR line → r ≡ readTableLine charset (take n line) → r ≡ readTableLine charset (withoutCR line)
+trimmed-line charset line n r c e = rw (← c) e

@@ -1,4 +1,4 @@
--- Which refusals the text of a byte table gives: 1, 3, 4, 6 to 9, 11 and 16, and no other.
+-- Which refusals a byte table gives: 1, 3, 4, 6 to 9, 11, 16 and 21, and no other.
 use Prim.Native.Nat.{ℕ, _-_}
 use mathlib.Core.Path.{_≡_, refl}
 use mathlib.Core.Bool.{Bool, true, false, _||_}
@@ -10,12 +10,13 @@ use Rattle.basics.specs.Refusals.{numberOf}
 use Rattle.basics.specs.declared.Refusal.{Refusal}
 use Rattle.basics.specs.declared.Maybe.{Maybe}
 use Rattle.basics.specs.declared.Maybe.the-variants.{Nothing, Character}
-use Rattle.basics.proofs.Tests.{either}
+use Rattle.basics.proofs.Tests.{either, by-cases}
+use Rattle.unicode.specs.Characters.{isCharset}
 use Rattle.unicode.specs.Utf8.{utf8}
 use Rattle.unicode.specs.declared.Validity.{Validity}
 use Rattle.unicode.specs.declared.Validity.the-variants.{Good, BadAt}
 use Rattle.lines.specs.Words.{wordAt, bytesOf, isMissing, sameBytes, isOver}
-use Rattle.lines.specs.Texts.{lineLimit, validOpening, openingOf, ifDirective, Step, next, stop, rejected}
+use Rattle.lines.specs.Texts.{lineLimit, validOpening, openingOf, ifDirective, Step, next, stop, rejected, runText}
 use Rattle.lines.specs.declared.Word.{Word}
 use Rattle.lines.specs.declared.Opening.{Opening}
 use Rattle.lines.specs.declared.Opening.the-variants as G
@@ -39,13 +40,13 @@ use Rattle.attributes.specs.declared.StateOperand.the-variants.{Bad, Read}
 use Rattle.attributes.specs.declared.DotStates.{DotStates}
 use Rattle.attributes.specs.declared.DotLine.{DotLine}
 use Rattle.attributes.specs.declared.DotLine.the-variants as D
-use Rattle.byte_tables.specs.Reader.{byteOf, byteAt, fault, finished, byteLine, tableLine, readTableLine}
+use Rattle.byte_tables.specs.Reader.{formByte, byteAt, fault, finished, byteLine, tableLine, readTableLine}
 use Rattle.byte_tables.specs.Compile.{slot, SoFar, begun, withDots, withByte, withLine, step, compiledBytes}
 use Rattle.byte_tables.specs.declared.TableLine.{TableLine}
 use Rattle.byte_tables.specs.declared.TableLine.the-variants.{Common, Byte}
 
 abbrev pub given : List ℕ
-given = 1 ∷ 3 ∷ 4 ∷ 6 ∷ 7 ∷ 8 ∷ 9 ∷ 11 ∷ 16 ∷ []
+given = 1 ∷ 3 ∷ 4 ∷ 6 ∷ 7 ∷ 8 ∷ 9 ∷ 11 ∷ 16 ∷ 21 ∷ []
 
 abbrev isIn : ℕ → List ℕ → Bool
 isIn n [] = false
@@ -77,7 +78,7 @@ abbrev OfLine : TableLine → Type 0
 OfLine (Common read) = OfDot read
 OfLine (Byte byte cell left) = Unit {0}
 
-module _ (line : List ℕ) where
+module _ (charset : ℕ) (line : List ℕ) where
   -- a `dot` line
   of-state : (dot left : ℕ) (w : Word) (s : StateOperand) → OfDot (stateLine line dot w s left)
   of-state dot left w Bad = refl
@@ -98,9 +99,9 @@ module _ (line : List ℕ) where
   of-word Nothing w = refl
   of-word (Character c) w = tt
 
-  of-byte-at : (at : ℕ) → OfOperand (byteAt line at)
+  of-byte-at : (at : ℕ) → OfOperand (byteAt charset line at)
   unfolding byteAt
-  of-byte-at at = either OfOperand (isMissing (wordAt line at)) refl (of-word (byteOf (bytesOf line (wordAt line at))) (wordAt line at))
+  of-byte-at at = either OfOperand (isMissing (wordAt line at)) refl (of-word (formByte charset (bytesOf line (wordAt line at))) (wordAt line at))
 
   of-cell : (read : CellRead) (left : ℕ) → OfDots (dotsFault read left)
   of-cell C.Bad left = refl
@@ -119,12 +120,12 @@ module _ (line : List ℕ) where
   of-byte left (O.Fault refusal place) h = h
   of-byte left (O.Value byte after) h = of-dots byte left (dotsOperandAt true line after) (of-dots-at after)
 
-  of-byte-line : (at left : ℕ) → OfLine (byteLine line at left)
+  of-byte-line : (at left : ℕ) → OfLine (byteLine charset line at left)
   unfolding byteLine
-  of-byte-line at left = of-byte left (byteAt line at) (of-byte-at at)
+  of-byte-line at left = of-byte left (byteAt charset line at) (of-byte-at at)
 
   -- any line
-  of-table-line : OfLine (tableLine line)
+  of-table-line : OfLine (tableLine charset line)
   unfolding tableLine
   of-table-line =
       let w : Word = wordAt line 0 in
@@ -140,7 +141,7 @@ module _ (line : List ℕ) where
   unfolding openingOf
   of-opening = either OfOpening (ltb lineLimit (length line)) refl (of-valid (utf8 line))
 
-  of-read : (o : Opening) → OfOpening o → OfLine (ifDirective o fault (Common D.Skip) (tableLine line))
+  of-read : (o : Opening) → OfOpening o → OfLine (ifDirective o fault (Common D.Skip) (tableLine charset line))
   of-read (G.Fault refusal left) h = h
   of-read G.Skip h = tt
   of-read G.Directive h = of-table-line
@@ -163,11 +164,14 @@ of-line : (s : SoFar) (read : TableLine) → OfLine read → StopsBy Given (with
 of-line s (Common read) h = of-dots-step s (withDot (s .dots) read) (of-dot (s .dots) read h)
 of-line s (Byte byte cell left) h = of-byte-step s (getD (s .slots) byte (slot Absent) .cell) byte cell left
 
-of-step : (s : SoFar) (line : List ℕ) → StopsBy Given (step s line)
+of-step : (charset : ℕ) (s : SoFar) (line : List ℕ) → StopsBy Given (step charset s line)
 unfolding step readTableLine
-of-step s line = of-line s (readTableLine line) (of-read line (openingOf line) (of-opening line))
+of-step charset s line = of-line s (readTableLine charset line) (of-read charset line (openingOf line) (of-opening charset line))
 
 -- so 2, 5, 10, 12, 13, 17 and 18 never occur
-pub bytes-refusals : (text : List ℕ) {refusal : Refusal} {n column : ℕ} → compiledBytes text ≡ rejected refusal n column → Given refusal
+pub bytes-refusals : (charset : ℕ) (text : List ℕ) {refusal : Refusal} {n column : ℕ} → compiledBytes charset text ≡ rejected refusal n column → Given refusal
 unfolding compiledBytes
-bytes-refusals text e = rw e at (run-refused Given step of-step begun text refl)
+bytes-refusals charset text e =
+    let read : RefusedBy Given (runText (step charset) begun text) = run-refused Given (step charset) (of-step charset) begun text refl in
+    let each : RefusedBy Given (compiledBytes charset text) = by-cases (isCharset charset) (λ q. rw q read) (λ q. rw q refl) in
+    rw e at each

@@ -3,8 +3,10 @@ use Prim.Native.Nat.{ℕ, _+_}
 use mathlib.Core.Bool.{true}
 use mathlib.Core.List.{List, [], _∷_}
 use lib.ListN.{getD, set, replicate}
+use Rattle.basics.specs.Choice.{pick}
 use Rattle.basics.specs.Refusals.{Reply}
-use Rattle.basics.specs.declared.Refusal.the-variants.{AlreadyDefined}
+use Rattle.basics.specs.declared.Refusal.the-variants.{AlreadyDefined, UnknownCharset}
+use Rattle.unicode.specs.Characters.{isCharset}
 use Rattle.lines.specs.Texts.{Step, next, stop, Outcome, accepted, rejected, runText, outcomeReply}
 use Rattle.definitions.specs.declared.Cell.{Cell}
 use Rattle.definitions.specs.declared.Cell.the-variants.{Absent, Dots}
@@ -51,12 +53,12 @@ abbrev pub withLine : SoFar → TableLine → Step SoFar
 withLine s (Common read) = withDots s (withDot (s .dots) read)
 withLine s (Byte byte cell left) = withByte s (getD (s .slots) byte (slot Absent) .cell) byte cell left
 
-unfoldable pub step : SoFar → List ℕ → Step SoFar
-step s line = withLine s (readTableLine line)
+unfoldable pub step : ℕ → SoFar → List ℕ → Step SoFar
+step charset s line = withLine s (readTableLine charset line)
 
--- the table of a text
-unfoldable pub compiledBytes : List ℕ → Outcome SoFar
-compiledBytes text = runText step begun text
+-- the table of a text in a local character set: 21, then 1, then the first faulty line
+unfoldable pub compiledBytes : ℕ → List ℕ → Outcome SoFar
+compiledBytes charset text = pick (isCharset charset) (runText (step charset) begun text) (rejected UnknownCharset 0 0)
 
 -- the answer: the count of its byte lines, the `dot` lines not counted, or the refusal with its line
 abbrev pub bytesReply : Outcome SoFar → Reply ℕ

@@ -1,8 +1,6 @@
 -- What the code knows beyond the rules: bounds, and what a line leaves of the parts that it can change.
 use Prim.Native.Nat.{ℕ, _≤_, _<_}
 use Rattle.basics.specs.declared.Refusal.the-variants.{AlreadyDefined}
-use Rattle.basics.specs.declared.Maybe.{Maybe}
-use Rattle.basics.specs.declared.Maybe.the-variants.{Nothing, Character}
 use Rattle.lines.specs.Texts.{Step, next, stop}
 use Rattle.lines.specs.declared.Stopped.{Stopped}
 use Rattle.lines.specs.declared.Stopped.the-variants.{No, By}
@@ -19,12 +17,7 @@ use Rattle.byte_tables.specs.declared.TableLine.the-variants.{Common, By
 use Rattle.byte_tables.specs.declared.Slot.{Slot}
 use Rattle.byte_tables.specs.declared.Stepped.{Stepped}
 
--- a byte has eight bits
-abbrev pub EightBits : Maybe → Type 0
-EightBits Nothing = Unit {0}
-EightBits (Character byte) = byte < 256
-
--- and where one is read, the position after it lies within so many bytes
+-- a byte that is read has eight bits, and the position after it lies within so many bytes
 abbrev pub ByteWithin : Operand → ℕ → Type 0
 ByteWithin (O.Fault refusal left) n = Unit {0}
 ByteWithin (O.Value byte after) n = (byte < 256) × (after ≤ n)

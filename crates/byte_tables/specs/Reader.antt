@@ -4,17 +4,17 @@ use Prim.Native.Nat.{ℕ, _-_}
 use mathlib.Core.Bool.{Bool, true, not, _||_}
 use mathlib.Core.List.{List}
 use lib.ListN.{length, getD}
-use lib.Dec.{eqb, leb}
+use lib.Dec.{eqb}
 use Rattle.basics.specs.Ascii.{ascii}
-use Rattle.basics.specs.Choice.{pick, ifCharacter}
+use Rattle.basics.specs.Choice.{pick}
 use Rattle.basics.specs.declared.Refusal.{Refusal}
 use Rattle.basics.specs.declared.Refusal.the-variants.{MissingOperand, TrailingText}
 use Rattle.basics.specs.declared.Maybe.{Maybe}
-use Rattle.basics.specs.declared.Maybe.the-variants.{Nothing, Character}
+use Rattle.basics.specs.declared.Maybe.the-variants.{Nothing}
 use Rattle.lines.specs.declared.Word.{Word}
 use Rattle.lines.specs.Words.{wordAt, bytesOf, isMissing, sameBytes, isOver}
 use Rattle.lines.specs.Texts.{openingOf, ifDirective}
-use Rattle.operands.specs.Characters.{backslash, characterOf}
+use Rattle.operands.specs.Characters.{backslash, byteOf}
 use Rattle.operands.specs.Operands.{wordOperand, dotsOperandAt, ifValue, ifDotsValue}
 use Rattle.operands.specs.declared.Operand.{Operand}
 use Rattle.operands.specs.declared.Operand.the-variants as O
@@ -27,19 +27,15 @@ use Rattle.byte_tables.specs.declared.TableLine.the-variants.{Common, By
 abbrev pub isByteForm : List ℕ → Bool
 isByteForm w = not (eqb (getD w 0 0) backslash) || (eqb (getD w 1 0) backslash || (eqb (getD w 1 0) 120 || eqb (getD w 1 0) 88))
 
--- the byte that the local set has for a character: it has those up to U+00FF, each as the byte of its number
-abbrev pub ownByte : ℕ → Maybe
-ownByte c = pick (leb c 255) (Character c) Nothing
-
--- the byte of a whole word
-unfoldable pub byteOf : List ℕ → Maybe
-byteOf w = pick (isByteForm w) (ifCharacter (characterOf w) Nothing ownByte) Nothing
+-- the byte of a whole word of these forms, in a local character set
+unfoldable pub formByte : ℕ → List ℕ → Maybe
+formByte charset w = pick (isByteForm w) (byteOf charset w) Nothing
 
 -- the next word as a byte operand
-unfoldable pub byteAt : List ℕ → ℕ → Operand
-byteAt line at =
+unfoldable pub byteAt : ℕ → List ℕ → ℕ → Operand
+byteAt charset line at =
     let w : Word = wordAt line at in
-    pick (isMissing w) (O.Fault MissingOperand 0) (wordOperand (byteOf (bytesOf line w)) line w)
+    pick (isMissing w) (O.Fault MissingOperand 0) (wordOperand (formByte charset (bytesOf line w)) line w)
 
 abbrev pub fault : Refusal → ℕ → TableLine
 fault refusal left = Common (D.Fault refusal left)
@@ -49,21 +45,21 @@ abbrev pub finished : List ℕ → ℕ → TableLine → TableLine
 finished line at read = pick (isOver line at) read (fault TrailingText (length line - wordAt line at .start))
 
 -- a byte line from its byte operand on
-unfoldable pub byteLine : List ℕ → ℕ → ℕ → TableLine
-byteLine line at left =
-    ifValue (byteAt line at) fault (λ byte after.
+unfoldable pub byteLine : ℕ → List ℕ → ℕ → ℕ → TableLine
+byteLine charset line at left =
+    ifValue (byteAt charset line at) fault (λ byte after.
     ifDotsValue (dotsOperandAt true line after) fault (λ cell end.
     finished line end (Byte byte cell left)))
 
 -- a line begun by `dot` or `byte` is that; any other is a byte line too, its first word the operand
-unfoldable pub tableLine : List ℕ → TableLine
-tableLine line =
+unfoldable pub tableLine : ℕ → List ℕ → TableLine
+tableLine charset line =
     let w : Word = wordAt line 0 in
     let left : ℕ = length line - w .start in
     pick (sameBytes (bytesOf line w) (ascii "dot")) (Common (dotAt true line (w .end) left))
-    (pick (sameBytes (bytesOf line w) (ascii "byte")) (byteLine line (w .end) left)
-    (byteLine line (w .start) left))
+    (pick (sameBytes (bytesOf line w) (ascii "byte")) (byteLine charset line (w .end) left)
+    (byteLine charset line (w .start) left))
 
 -- a whole line, without its end: 3, 4, then the others
-unfoldable pub readTableLine : List ℕ → TableLine
-readTableLine line = ifDirective (openingOf line) fault (Common D.Skip) (tableLine line)
+unfoldable pub readTableLine : ℕ → List ℕ → TableLine
+readTableLine charset line = ifDirective (openingOf line) fault (Common D.Skip) (tableLine charset line)

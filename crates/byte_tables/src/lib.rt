@@ -12,13 +12,16 @@ use lines::TEXT_LIMIT;
 use operands::DotsOperand;
 use operands::Operand;
 ghost use mathlib.Core.Path.{_≡_};
+ghost use mathlib.Core.Bool.{true};
 ghost use Prim.Native.Nat.{_+_, _≤_, _<_};
 ghost use lib.ListN.{length};
-ghost use Rattle.byte_tables.specs.Reader.{isByteForm, ownByte, byteOf, byteAt, finished, byteLine, tableLine, readTableLine};
+ghost use Rattle.byte_tables.specs.Reader.{isByteForm, formByte, byteAt, finished, byteLine, tableLine, readTableLine};
 ghost use Rattle.byte_tables.specs.Compile.{compiledBytes, bytesReply, shownBy, cellsFrom, noCells, outcomeCells};
-ghost use Rattle.byte_tables.specs.Internal.{EightBits, ByteWithin, LineWithin, byteIn, commonTaken, byteTaken, lineTaken};
+ghost use Rattle.byte_tables.specs.Internal.{ByteWithin, LineWithin, byteIn, commonTaken, byteTaken, lineTaken};
 ghost use Rattle.attributes.specs.Compile.{withDot};
 ghost use Rattle.attributes.specs.Internal.{DotWithin};
+ghost use Rattle.unicode.specs.Characters.{isCharset};
+ghost use Rattle.unicode.specs.Internal.{EightBits};
 ghost use Rattle.lines.specs.Lines.{withoutCR};
 ghost use Rattle.lines.specs.Texts.{textLimit, outcomeColumn, compiledReply, compiledColumn};
 
@@ -71,35 +74,21 @@ fn is_byte_form(w: &[u8]) -> bool
     w[1] == b'X'
 }
 
-// The byte that the local set has for a character.
-fn own_byte(c: u32) -> Maybe
-    ensures { λ r. ⌜ r ≡ ownByte c ⌝ }
+// The byte of a whole word of these forms.
+fn form_byte(charset: u32, w: &[u8]) -> Maybe
+    ensures { λ r. ⌜ r ≡ formByte charset (now (w .entry)) ⌝ }
     ensures { λ r. ⌜ EightBits r ⌝ }
 {
-    if c <= 255 {
-        return Maybe::Character(c);
+    if is_byte_form(w) {
+        return operands::byte_of(charset, w);
     }
     Maybe::Nothing
 }
 
-// The byte of a whole word.
-fn byte_of(w: &[u8]) -> Maybe
-    ensures { λ r. ⌜ r ≡ byteOf (now (w .entry)) ⌝ }
-    ensures { λ r. ⌜ EightBits r ⌝ }
-{
-    if !is_byte_form(w) {
-        return Maybe::Nothing;
-    }
-    match operands::character_of(w) {
-        Maybe::Nothing => Maybe::Nothing,
-        Maybe::Character(c) => own_byte(c),
-    }
-}
-
 // The next word from `at` on as a byte operand.
-fn byte_at(line: &[u8], at: usize) -> Operand
+fn byte_at(charset: u32, line: &[u8], at: usize) -> Operand
     requires { ⌜ at ≤ length (now line) ⌝ }
-    ensures { λ r. ⌜ r ≡ byteAt (now (line .entry)) at ⌝ }
+    ensures { λ r. ⌜ r ≡ byteAt charset (now (line .entry)) at ⌝ }
     ensures { λ r. ⌜ ByteWithin r (length (now (line .entry))) ⌝ }
 {
     let w = lines::next_word(line, at);
@@ -108,7 +97,7 @@ fn byte_at(line: &[u8], at: usize) -> Operand
     if start == end {
         return Operand::Fault(Refusal::MissingOperand, 0);
     }
-    match byte_of(&line[start..end]) {
+    match form_byte(charset, &line[start..end]) {
         Maybe::Nothing => Operand::Fault(Refusal::BadCharacter, line.len() - start),
         Maybe::Character(byte) => Operand::Value(byte, end),
     }
@@ -127,11 +116,11 @@ fn finish(line: &[u8], at: usize, read: TableLine) -> TableLine
 }
 
 // A byte line from its byte operand on.
-fn byte_line(line: &[u8], at: usize, left: usize) -> TableLine
+fn byte_line(charset: u32, line: &[u8], at: usize, left: usize) -> TableLine
     requires { ⌜ at ≤ length (now line) ⌝ }
-    ensures { λ r. ⌜ r ≡ byteLine (now (line .entry)) at left ⌝ }
+    ensures { λ r. ⌜ r ≡ byteLine charset (now (line .entry)) at left ⌝ }
 {
-    match byte_at(line, at) {
+    match byte_at(charset, line, at) {
         Operand::Fault(refusal, place) => TableLine::Common(DotLine::Fault(refusal, place)),
         Operand::Value(byte, after) => match operands::dots_operand_at(line, after, true) {
             DotsOperand::Fault(refusal, place) => TableLine::Common(DotLine::Fault(refusal, place)),
@@ -149,8 +138,8 @@ fn byte_line(line: &[u8], at: usize, left: usize) -> TableLine
 }
 
 // A line that is no comment, from its first word on.
-fn table_line(line: &[u8]) -> TableLine
-    ensures { λ r. ⌜ r ≡ tableLine (now (line .entry)) ⌝ }
+fn table_line(charset: u32, line: &[u8]) -> TableLine
+    ensures { λ r. ⌜ r ≡ tableLine charset (now (line .entry)) ⌝ }
     ensures { λ r. ⌜ LineWithin r ⌝ }
 {
     let w = lines::next_word(line, 0);
@@ -162,30 +151,30 @@ fn table_line(line: &[u8]) -> TableLine
         return TableLine::Common(attributes::dot_at(true, line, end, left));
     }
     if lines::same_bytes(first, b"byte") {
-        return byte_line(line, end, left);
+        return byte_line(charset, line, end, left);
     }
-    byte_line(line, start, left)
+    byte_line(charset, line, start, left)
 }
 
 // A whole line, without its end.
-fn read_table_line(line: &[u8]) -> TableLine
-    ensures { λ r. ⌜ r ≡ readTableLine (now (line .entry)) ⌝ }
+fn read_table_line(charset: u32, line: &[u8]) -> TableLine
+    ensures { λ r. ⌜ r ≡ readTableLine charset (now (line .entry)) ⌝ }
     ensures { λ r. ⌜ LineWithin r ⌝ }
 {
     match lines::open_line(line) {
         Opening::Fault(refusal, left) => TableLine::Common(DotLine::Fault(refusal, left)),
         Opening::Skip => TableLine::Common(DotLine::Skip),
-        Opening::Directive => table_line(line),
+        Opening::Directive => table_line(charset, line),
     }
 }
 
 // The same of a line with its CR, if it has one.
-fn read_line(line: &[u8]) -> TableLine
-    ensures { λ r. ⌜ r ≡ readTableLine (withoutCR (now (line .entry))) ⌝ }
+fn read_line(charset: u32, line: &[u8]) -> TableLine
+    ensures { λ r. ⌜ r ≡ readTableLine charset (withoutCR (now (line .entry))) ⌝ }
     ensures { λ r. ⌜ LineWithin r ⌝ }
 {
     let n = lines::trimmed(line);
-    read_table_line(&line[..n])
+    read_table_line(charset, &line[..n])
 }
 
 // The byte whose slot a line asks for; any where it asks for none.
@@ -303,11 +292,11 @@ pub fn without_cells(answer: Compiled) -> Compilation
 }
 
 // Reads the lines of a text.
-fn read_lines(text: &[u8]) -> Compilation
-    requires { ⌜ length (now text) ≤ textLimit ⌝ }
-    ensures answer { λ r. ⌜ compiledReply (r .answer) ≡ bytesReply (compiledBytes (now (text .entry))) ⌝ }
-    ensures column { λ r. ⌜ compiledColumn (r .answer) ≡ outcomeColumn (compiledBytes (now (text .entry))) ⌝ }
-    ensures cells { λ r. ⌜ r .cells ≡ outcomeCells (compiledBytes (now (text .entry))) ⌝ }
+fn read_lines(charset: u32, text: &[u8]) -> Compilation
+    requires { ⌜ (isCharset charset ≡ true) × (length (now text) ≤ textLimit) ⌝ }
+    ensures answer { λ r. ⌜ compiledReply (r .answer) ≡ bytesReply (compiledBytes charset (now (text .entry))) ⌝ }
+    ensures column { λ r. ⌜ compiledColumn (r .answer) ≡ outcomeColumn (compiledBytes charset (now (text .entry))) ⌝ }
+    ensures cells { λ r. ⌜ r .cells ≡ outcomeCells (compiledBytes charset (now (text .entry))) ⌝ }
 {
     let mut slots = [Slot { cell: Cell::Absent }; 256];
     let mut dots = attributes::no_states();
@@ -317,7 +306,7 @@ fn read_lines(text: &[u8]) -> Compilation
     while at < text.len() {
         let end = lines::line_end(text, at);
         let here = &text[at..end];
-        let read = read_line(here);
+        let read = read_line(charset, here);
         let byte = byte_in(read) as usize;
         let asked = slots[byte];
         let next = take_line(dots, asked, read);
@@ -348,12 +337,19 @@ fn read_lines(text: &[u8]) -> Compilation
     }
 }
 
-// Compiles a byte table: any bytes.
-pub fn compile_bytes(text: &[u8]) -> Compilation
-    ensures answer { λ r. ⌜ compiledReply (r .answer) ≡ bytesReply (compiledBytes (now (text .entry))) ⌝ }
-    ensures column { λ r. ⌜ compiledColumn (r .answer) ≡ outcomeColumn (compiledBytes (now (text .entry))) ⌝ }
-    ensures cells { λ r. ⌜ r .cells ≡ outcomeCells (compiledBytes (now (text .entry))) ⌝ }
+// Compiles a byte table in a local character set: any number, any bytes.
+pub fn compile_bytes(charset: u32, text: &[u8]) -> Compilation
+    ensures answer { λ r. ⌜ compiledReply (r .answer) ≡ bytesReply (compiledBytes charset (now (text .entry))) ⌝ }
+    ensures column { λ r. ⌜ compiledColumn (r .answer) ≡ outcomeColumn (compiledBytes charset (now (text .entry))) ⌝ }
+    ensures cells { λ r. ⌜ r .cells ≡ outcomeCells (compiledBytes charset (now (text .entry))) ⌝ }
 {
+    if !unicode::is_charset(charset) {
+        return without_cells(Compiled::Refused {
+            refusal: Refusal::UnknownCharset,
+            line: 0,
+            column: 0,
+        });
+    }
     if TEXT_LIMIT < text.len() {
         return without_cells(Compiled::Refused {
             refusal: Refusal::TextTooLong,
@@ -361,5 +357,5 @@ pub fn compile_bytes(text: &[u8]) -> Compilation
             column: 0,
         });
     }
-    read_lines(text)
+    read_lines(charset, text)
 }

@@ -1,10 +1,12 @@
 // Runs a case: a line of five fields that says a call, a text, a question, the answer that is expected and what it is
-// about.
+// about. Behind the call stands the local character set, ISO 8859-1 where none is named.
 use answers::Text;
 use basics::Refusal;
 use lines::Compiled;
 use lines::TEXT_LIMIT;
+use table::PAIR_WORDS;
 use table::TABLE_WORDS;
+use unicode::ISO_8859_1;
 
 // Two words more than a table has.
 const WORDS: usize = TABLE_WORDS + 2;
@@ -14,17 +16,17 @@ const BYTES: u32 = 1;
 
 const PRESENT: u32 = 2;
 
-// What compiling in an edition answers, without the cells.
-fn compile(edition: u32, text: &[u8], words: &mut [u32]) -> Compiled {
-    let done = editions::compile(edition, text, words);
+// What compiling in an edition and a set answers, without the cells.
+fn compile(edition: u32, charset: u32, text: &[u8], words: &mut [u32]) -> Compiled {
+    let done = editions::compile(edition, charset, text, words);
     done.answer
 }
 
 // What compiling into a slice that lacks so many words answers.
-fn compiled(edition: u32, text: &[u8], lacking: u32) -> Compiled {
+fn compiled(edition: u32, charset: u32, text: &[u8], lacking: u32) -> Compiled {
     let mut words = [0u32; TABLE_WORDS];
     let n = lacking as usize % (TABLE_WORDS + 1);
-    compile(edition, text, &mut words[n..])
+    compile(edition, charset, text, &mut words[n..])
 }
 
 fn page_answer(words: &[u32], question: &[u8]) -> Text {
@@ -64,15 +66,17 @@ fn table_answer(call: usize, words: &[u32], question: &[u8]) -> Text {
 }
 
 // A question to the table that the text compiles to.
-fn table_case(call: usize, text: &[u8], question: &[u8]) -> Text {
+fn table_case(charset: u32, call: usize, text: &[u8], question: &[u8]) -> Text {
     let mut words = [0u32; TABLE_WORDS];
-    compile(PRESENT, text, &mut words);
+    compile(PRESENT, charset, text, &mut words);
     table_answer(call, &words, question)
 }
 
-// A question to so many words, which the text lists; those beyond a table hold what no table could.
-fn lent_case(length: usize, call: usize, text: &[u8], question: &[u8]) -> Text {
+// A question to so many words, which the text lists, for a set unless the text says otherwise; those beyond a table hold
+// what no table could.
+fn lent_case(charset: u32, length: usize, call: usize, text: &[u8], question: &[u8]) -> Text {
     let mut words = [0u32; WORDS];
+    words[PAIR_WORDS] = charset;
     words[TABLE_WORDS] = 7;
     words[TABLE_WORDS + 1] = 7;
     fields::put_numbers(&mut words, text);
@@ -80,43 +84,43 @@ fn lent_case(length: usize, call: usize, text: &[u8], question: &[u8]) -> Text {
     table_answer(call, &words[0..n], question)
 }
 
-fn left_answer(text: &[u8], words: &mut [u32]) -> Text {
-    let answer = compile(PRESENT, text, words);
+fn left_answer(charset: u32, text: &[u8], words: &mut [u32]) -> Text {
+    let answer = compile(PRESENT, charset, text, words);
     replies::left_text(replies::compile_text(answer), words)
 }
 
-fn left_case(text: &[u8], length: u32) -> Text {
+fn left_case(charset: u32, text: &[u8], length: u32) -> Text {
     let mut words = [7u32; WORDS];
     let n = length as usize % (WORDS + 1);
-    left_answer(text, &mut words[0..n])
+    left_answer(charset, text, &mut words[0..n])
 }
 
 // What compiling in an edition answers, what it leaves in words that all held 7, and whether it hands back cells.
-fn edition_answer(edition: u32, text: &[u8], words: &mut [u32]) -> Text {
-    let done = editions::compile(edition, text, words);
+fn edition_answer(edition: u32, charset: u32, text: &[u8], words: &mut [u32]) -> Text {
+    let done = editions::compile(edition, charset, text, words);
     let answer = done.answer;
     let cells = done.cells;
     let front = replies::left_text(replies::column_text(answer), words);
     replies::push_filled(front, &cells)
 }
 
-fn edition_case(edition: u32, text: &[u8], length: u32) -> Text {
+fn edition_case(edition: u32, charset: u32, text: &[u8], length: u32) -> Text {
     let mut words = [7u32; WORDS];
     let n = length as usize % (WORDS + 1);
-    edition_answer(edition, text, &mut words[0..n])
+    edition_answer(edition, charset, text, &mut words[0..n])
 }
 
 // The question has the edition, and how many words are lent.
-fn any_edition_case(text: &[u8], question: &[u8]) -> Text {
+fn any_edition_case(charset: u32, text: &[u8], question: &[u8]) -> Text {
     let mut numbers = [0u32; 2];
     fields::put_numbers(&mut numbers, question);
-    edition_case(numbers[0], text, numbers[1])
+    edition_case(numbers[0], charset, text, numbers[1])
 }
 
 // The cells of 16 bytes of a byte table, by their high digit.
-fn row_case(text: &[u8], high: u32) -> Text {
+fn row_case(charset: u32, text: &[u8], high: u32) -> Text {
     let mut words = [0u32; 1];
-    let done = editions::compile(BYTES, text, &mut words);
+    let done = editions::compile(BYTES, charset, text, &mut words);
     let cells = done.cells;
     let all: &[u8] = &cells;
     let first = 16 * (high as usize % 16);
@@ -161,7 +165,8 @@ fn refusal_of(number: u32) -> Refusal {
         17 => Refusal::StrayBlockWord,
         18 => Refusal::UnclosedBlock,
         19 => Refusal::BeyondPage,
-        _ => Refusal::UnknownEdition,
+        20 => Refusal::UnknownEdition,
+        _ => Refusal::UnknownCharset,
     }
 }
 
@@ -173,30 +178,40 @@ fn report_case(number: u32, line: u32) -> Text {
     })
 }
 
+// The set that a case names behind its kind.
+fn charset_in(name: &[u8]) -> u32 {
+    let named = fields::rest(name, b' ');
+    if named.len() == 0 {
+        return ISO_8859_1;
+    }
+    fields::number(named)
+}
+
 // The answer to a case by its fields. The kinds that ask a table stand in fours, in the order of `table_answer`.
 fn answer_to(name: &[u8], text: &[u8], question: &[u8]) -> Text {
     let n = fields::number(question);
+    let charset = charset_in(name);
     let kind = fields::place_of(
-        name,
+        fields::first(name, b' '),
         b"show type page windows lent lent_type lent_page lent_windows \
         short short_type short_page short_windows beyond beyond_type beyond_page beyond_windows \
         compile column left attributes attributes_column dots bytes row edition report",
     );
     let call = kind % 4;
     match kind {
-        0 | 1 | 2 | 3 => table_case(call, text, question),
-        4 | 5 | 6 | 7 => lent_case(TABLE_WORDS, call, text, question),
-        8 | 9 | 10 | 11 => lent_case(TABLE_WORDS - 1, call, text, question),
-        12 | 13 | 14 | 15 => lent_case(WORDS, call, text, question),
-        16 => replies::compile_text(compiled(PRESENT, text, 0)),
-        17 => replies::column_text(compiled(PRESENT, text, n)),
-        18 => left_case(text, n),
+        0 | 1 | 2 | 3 => table_case(charset, call, text, question),
+        4 | 5 | 6 | 7 => lent_case(charset, TABLE_WORDS, call, text, question),
+        8 | 9 | 10 | 11 => lent_case(charset, TABLE_WORDS - 1, call, text, question),
+        12 | 13 | 14 | 15 => lent_case(charset, WORDS, call, text, question),
+        16 => replies::compile_text(compiled(PRESENT, charset, text, 0)),
+        17 => replies::column_text(compiled(PRESENT, charset, text, n)),
+        18 => left_case(charset, text, n),
         19 => replies::compile_text(compiled_attributes(text)),
         20 => replies::column_text(compiled_attributes(text)),
         21 => dots_case(text, n),
-        22 => replies::column_text(compiled(BYTES, text, 0)),
-        23 => row_case(text, n),
-        24 => any_edition_case(text, question),
+        22 => replies::column_text(compiled(BYTES, charset, text, 0)),
+        23 => row_case(charset, text, n),
+        24 => any_edition_case(charset, text, question),
         25 => report_case(fields::number(text), n),
         _ => answers::text_of(b"unknown kind"),
     }

@@ -1,4 +1,4 @@
-// Reads a text table from standard input and writes what compiling answers, on one line.
+// Reads a text table in ISO 8859-1 from standard input and writes what compiling answers, on one line.
 use libc::STDIN_FILENO;
 use libc::STDOUT_FILENO;
 
@@ -7,7 +7,7 @@ fn main() {
     let mut text = [0u8; lines::TEXT_LIMIT + 1];
     let n = io::read_full(STDIN_FILENO, &mut text);
     let mut words = [0u32; table::TABLE_WORDS];
-    let line = report::report(compiler::compile(&text[..n], &mut words));
+    let line = report::report(compiler::compile(unicode::ISO_8859_1, &text[..n], &mut words));
     let bytes = line.bytes;
     let length = line.length;
     io::write_all(STDOUT_FILENO, &bytes[..length]);

@@ -22,7 +22,7 @@ use Rattle.definitions.specs.declared.Verdict.{Verdict}
 use Rattle.definitions.specs.declared.Verdict.the-variants as Judged
 use Rattle.definitions.specs.Effects.{definitionLimit, verdictOf}
 use Rattle.definitions.proofs.Admission.{admissible}
-use Rattle.table.specs.Words.{kindUnit, wordOf, definitions}
+use Rattle.table.specs.Words.{kindUnit, wordOf, charsetOf, definitions}
 use Rattle.table.proofs.Readback.{InRange}
 use Rattle.table.proofs.Written.{written-length, stored, store-fits, stored-more, stored-written, stored-beyond}
 use Rattle.reader.specs.Reader.{readLine}
@@ -34,12 +34,12 @@ use Rattle.compiler.specs.Internal.{Ready, goneOn, Leaves}
 use Rattle.compiler.specs.declared.State.{State}
 use Rattle.compiler.specs.declared.Stepped.{Stepped}
 
-module _ (ds : List Definition) (bs : List OpenBlock) (line : List ℕ) where
+module _ (charset : ℕ) (ds : List Definition) (bs : List OpenBlock) (line : List ℕ) where
   -- the definition that takes effect at a line
   module _ {d : Definition} {left : ℕ} where
-    effect-read : lineEffect ds bs line ≡ Define d left → (readLine ds (aroundOf bs) line ≡ Define d left) × (verdictOf ds d ≡ Judged.Admitted)
+    effect-read : lineEffect charset ds bs line ≡ Define d left → (readLine charset ds (aroundOf bs) line ≡ Define d left) × (verdictOf ds d ≡ Judged.Admitted)
     unfolding lineEffect
-    effect-read e = go (readLine ds (aroundOf bs) line) e
+    effect-read e = go (readLine charset ds (aroundOf bs) line) e
       where
         judge : (v : Verdict) (d₁ : Definition) (left₁ : ℕ) → verdictOf ds d₁ ≡ v → judged v d₁ left₁ ≡ Define d left
             → (Define d₁ left₁ ≡ Define d left) × (verdictOf ds d ≡ Judged.Admitted)
@@ -52,16 +52,16 @@ module _ (ds : List Definition) (bs : List OpenBlock) (line : List ℕ) where
         go (Define d₁ left₁) e = judge (verdictOf ds d₁) d₁ left₁ refl e
         go (Block read) e = (cc, cc)
 
-    pub effect-in-range : lineEffect ds bs line ≡ Define d left → InRange d
-    effect-in-range e = line-in-range ds (aroundOf bs) line (effect-read e .0)
+    pub effect-in-range : lineEffect charset ds bs line ≡ Define d left → InRange d
+    effect-in-range e = line-in-range charset ds (aroundOf bs) line (effect-read e .0)
 
-    pub effect-admitted : lineEffect ds bs line ≡ Define d left → verdictOf ds d ≡ Judged.Admitted
+    pub effect-admitted : lineEffect charset ds bs line ≡ Define d left → verdictOf ds d ≡ Judged.Admitted
     effect-admitted e = effect-read e .1
 
   -- what a line does to the open blocks: a block that opens had room and, where the line is not taken, no half that is
-  effect-block : {read : BlockLine} → lineEffect ds bs line ≡ Block read → readLine ds (aroundOf bs) line ≡ Block read
+  effect-block : {read : BlockLine} → lineEffect charset ds bs line ≡ Block read → readLine charset ds (aroundOf bs) line ≡ Block read
   unfolding lineEffect
-  effect-block {read} e = go (readLine ds (aroundOf bs) line) e
+  effect-block {read} e = go (readLine charset ds (aroundOf bs) line) e
     where
       judge : (v : Verdict) (d : Definition) (left : ℕ) → judged v d left ≡ Block read → Define d left ≡ Block read
       judge Judged.Admitted d left e = e
@@ -73,11 +73,11 @@ module _ (ds : List Definition) (bs : List OpenBlock) (line : List ℕ) where
       go (Define d left) e = judge (verdictOf ds d) d left e
       go (Block other) e = e
 
-  effect-had-room : {read : BlockLine} → lineEffect ds bs line ≡ Block read → RoomFor (aroundOf bs .room) read
-  effect-had-room e = line-had-room ds (aroundOf bs) line (effect-block e)
+  effect-had-room : {read : BlockLine} → lineEffect charset ds bs line ≡ Block read → RoomFor (aroundOf bs .room) read
+  effect-had-room e = line-had-room charset ds (aroundOf bs) line (effect-block e)
 
-  pub effect-no-half : {first second : Bool} → aroundOf bs .taken ≡ false → lineEffect ds bs line ≡ Block (Open first second) → (first ≡ false) × (second ≡ false)
-  effect-no-half untaken e = line-no-half ds (aroundOf bs) line untaken (effect-block e)
+  pub effect-no-half : {first second : Bool} → aroundOf bs .taken ≡ false → lineEffect charset ds bs line ≡ Block (Open first second) → (first ≡ false) × (second ≡ false)
+  effect-no-half untaken e = line-no-half charset ds (aroundOf bs) line untaken (effect-block e)
 
 -- each way through the effect of a line as read: v is what a call answered of the verdict
 pub effect-as : (ds : List Definition) {reading k t : Reading} → reading ≡ k → t ≡ effectOf ds k → t ≡ effectOf ds reading
@@ -86,14 +86,14 @@ effect-as ds q h = rw q h
 pub judged-as : (d : Definition) (left : ℕ) {v x u : Verdict} {t : Reading} → v ≡ x → v ≡ u → t ≡ judged u d left → t ≡ judged x d left
 judged-as d left e q h = rw (← e, q) h
 
-pub effect-line : (ds : List Definition) (bs : List OpenBlock) (line : List ℕ) {around : Around} {reading r : Reading} → around ≡ aroundOf bs → reading ≡ readLine ds around line → r ≡ effectOf ds reading → r ≡ lineEffect ds bs line
+pub effect-line : (charset : ℕ) (ds : List Definition) (bs : List OpenBlock) (line : List ℕ) {around : Around} {reading r : Reading} → around ≡ aroundOf bs → reading ≡ readLine charset ds around line → r ≡ effectOf ds reading → r ≡ lineEffect charset ds bs line
 unfolding lineEffect
-effect-line ds bs line a e h = rw (← a, ← e) h
+effect-line charset ds bs line a e h = rw (← a, ← e) h
 
 -- a line that is not refused is counted
-pub step-counts : (s : SoFar) (line : List ℕ) {s′ : SoFar} → step s line ≡ next s′ → s′ .lines ≡ s .lines + 1
+pub step-counts : (charset : ℕ) (s : SoFar) (line : List ℕ) {s′ : SoFar} → step charset s line ≡ next s′ → s′ .lines ≡ s .lines + 1
 unfolding step
-step-counts s line {s′} e = go (lineEffect (s .definitions) (s .blocks) line) e
+step-counts charset s line {s′} e = go (lineEffect charset (s .definitions) (s .blocks) line) e
   where
     go : (r : Reading) → withEffect s r ≡ next s′ → s′ .lines ≡ s .lines + 1
     go (Fault refusal left) e = cc
@@ -102,8 +102,8 @@ step-counts s line {s′} e = go (lineEffect (s .definitions) (s .blocks) line) 
     go (Block read) e = cc
 
 -- r is what a line does to words and a state that are ready
-module _ (ws : List ℕ) (s : State) (w : Ready ws s) (line : List ℕ) (r : Reading) (does : r ≡ lineEffect (definitions (s .count) ws) (blocksOf (s .blocks)) line) where
-  takes : {t : Reading} → r ≡ t → lineEffect (definitions (s .count) ws) (blocksOf (s .blocks)) line ≡ t
+module _ (ws : List ℕ) (s : State) (w : Ready ws s) (line : List ℕ) (r : Reading) (does : r ≡ lineEffect (charsetOf ws) (definitions (s .count) ws) (blocksOf (s .blocks)) line) where
+  takes : {t : Reading} → r ≡ t → lineEffect (charsetOf ws) (definitions (s .count) ws) (blocksOf (s .blocks)) line ≡ t
   takes e = sym does ∙ e
 
   pub leaves-refused : {refusal : Refusal} {left : ℕ} → r ≡ Fault refusal left → Leaves ws s line (record { stopped = By refusal left; state = s }) ws
@@ -116,7 +116,7 @@ module _ (ws : List ℕ) (s : State) (w : Ready ws s) (line : List ℕ) (r : Rea
 
   module _ {read : BlockLine} (e : r ≡ Block read) where
     pub had-room : RoomFor (depthLimit - s .blocks .depth) read
-    had-room = rw (room-left (s .blocks .blocks) (s .blocks .depth)) at (effect-had-room (definitions (s .count) ws) (blocksOf (s .blocks)) line (takes e))
+    had-room = rw (room-left (s .blocks .blocks) (s .blocks .depth)) at (effect-had-room (charsetOf ws) (definitions (s .count) ws) (blocksOf (s .blocks)) line (takes e))
 
     pub leaves-changed : {p : Stepped} {new : Blocks} → Changed (s .blocks) read (s .lines + 1) new → p ≡ goneOn (s .count) (s .lines) new → Leaves ws s line p ws
     unfolding step
@@ -124,14 +124,14 @@ module _ (ws : List ℕ) (s : State) (w : Ready ws s) (line : List ℕ) (r : Rea
 
   module _ {d : Definition} {left : ℕ} (e : r ≡ Define d left) where
     fits : InRange d
-    fits = effect-in-range (definitions (s .count) ws) (blocksOf (s .blocks)) line (takes e)
+    fits = effect-in-range (charsetOf ws) (definitions (s .count) ws) (blocksOf (s .blocks)) line (takes e)
 
     room : s .count < definitionLimit
     room =
         omega (
           arith,
           written-length ws (s .count) (w .written),
-          admissible (definitions (s .count) ws) d (effect-admitted (definitions (s .count) ws) (blocksOf (s .blocks)) line (takes e)) .room,
+          admissible (definitions (s .count) ws) d (effect-admitted (charsetOf ws) (definitions (s .count) ws) (blocksOf (s .blocks)) line (takes e)) .room,
         )
 
     pub put-room : 2 * s .count + 1 < length ws

@@ -29,18 +29,18 @@ after-nested Else (b ∷ bs) opens h = h
 after-nested EndIf [] opens h = tt
 after-nested EndIf (b ∷ bs) opens h = h .1
 
-step-nested : (s : SoFar) (line : List ℕ) (s′ : SoFar) → step s line ≡ next s′ → Nested (s .blocks) → Nested (s′ .blocks)
+step-nested : (charset : ℕ) (s : SoFar) (line : List ℕ) (s′ : SoFar) → step charset s line ≡ next s′ → Nested (s .blocks) → Nested (s′ .blocks)
 unfolding step
-step-nested s line s′ e h = go (lineEffect (s .definitions) (s .blocks) line) refl e
+step-nested charset s line s′ e h = go (lineEffect charset (s .definitions) (s .blocks) line) refl e
   where
-    go : (r : Reading) → lineEffect (s .definitions) (s .blocks) line ≡ r → withEffect s r ≡ next s′ → Nested (s′ .blocks)
+    go : (r : Reading) → lineEffect charset (s .definitions) (s .blocks) line ≡ r → withEffect s r ≡ next s′ → Nested (s′ .blocks)
     go (Fault refusal left) p e = absurd (let z : _≡_ {A = ℕ} 0 1 = cc in omega arith)
     go NoEffect p e = let same : s .blocks ≡ s′ .blocks = cc in rw same at h
     go (Define d left) p e = let same : s .blocks ≡ s′ .blocks = cc in rw same at h
     go (Block read) p e =
         let same : blocksAfter read (s .blocks) ≡ s′ .blocks = cc in
         rw same at
-        (after-nested read (s .blocks) (λ first second q untaken. effect-no-half (s .definitions) (s .blocks) line untaken (rw q at p)) h)
+        (after-nested read (s .blocks) (λ first second q untaken. effect-no-half charset (s .definitions) (s .blocks) line untaken (rw q at p)) h)
 
 abbrev AllTaken : List OpenBlock → Type 0
 AllTaken [] = Unit
@@ -59,5 +59,5 @@ all-taken (b ∷ bs) h t = (t, all-taken bs (h .1) (outer (aroundOf bs .taken) r
         absurd (let z : _≡_ {A = ℕ} 0 1 = cc in omega arith)
 
 -- behind any lines of a text: where the next one is taken, each block around it is in a half that is
-pub taken-within : (ls : List (List ℕ)) {s : SoFar} → runLines step ls 1 begun ≡ accepted s → aroundOf (s .blocks) .taken ≡ true → AllTaken (s .blocks)
-taken-within ls {s} run t = all-taken (s .blocks) (run-keeps step (λ s. Nested (s .blocks)) step-nested ls 1 begun run tt) t
+pub taken-within : (charset : ℕ) (ls : List (List ℕ)) {s : SoFar} → runLines (step charset) ls 1 begun ≡ accepted s → aroundOf (s .blocks) .taken ≡ true → AllTaken (s .blocks)
+taken-within charset ls {s} run t = all-taken (s .blocks) (run-keeps (step charset) (λ s. Nested (s .blocks)) (step-nested charset) ls 1 begun run tt) t

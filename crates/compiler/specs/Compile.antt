@@ -1,12 +1,13 @@
 -- Compiling: what a line does to the definitions and the open blocks so far, and what the compile call answers and writes.
 use Prim.Native.Nat.{ℕ, _+_}
-use mathlib.Core.Bool.{_||_}
+use mathlib.Core.Bool.{not, _||_}
 use mathlib.Core.List.{List, [], _∷_, _++_}
 use lib.ListN.{length, drop, replicate}
 use lib.Dec.{ltb}
 use Rattle.basics.specs.Choice.{pick}
 use Rattle.basics.specs.Refusals.{Reply, refused}
 use Rattle.basics.specs.declared.Refusal.the-variants.{UnclosedBlock}
+use Rattle.unicode.specs.Characters.{isCharset}
 use Rattle.lines.specs.Lines.{withoutCR}
 use Rattle.lines.specs.Texts.{textLimit, Step, next, stop, Outcome, accepted, rejected, runText, outcomeReply, outcomeColumn}
 use Rattle.blocks.specs.Blocks.{aroundOf, blocksAfter, startsAfter}
@@ -31,9 +32,9 @@ effectOf ds NoEffect = NoEffect
 effectOf ds (Define d left) = judged (verdictOf ds d) d left
 effectOf ds (Block line) = Block line
 
--- what a line does inside these open blocks: its first fault, nothing, the definition that takes effect, or what it does to the blocks
-unfoldable pub lineEffect : List Definition → List OpenBlock → List ℕ → Reading
-lineEffect ds bs line = effectOf ds (readLine ds (aroundOf bs) line)
+-- what a line does inside these open blocks, in a local character set: its first fault, nothing, the definition that takes effect, or what it does to the blocks
+unfoldable pub lineEffect : ℕ → List Definition → List OpenBlock → List ℕ → Reading
+lineEffect charset ds bs line = effectOf ds (readLine charset ds (aroundOf bs) line)
 
 -- what the lines so far leave: their definitions, the open blocks, the lines that opened these, and how many lines there were
 pub record SoFar : Type 0 where
@@ -57,8 +58,8 @@ withEffect s (Define d left) = next (soFar (s .definitions ++ d ∷ []) (s .bloc
 withEffect s (Block line) =
     next (soFar (s .definitions) (blocksAfter line (s .blocks)) (startsAfter line (s .lines + 1) (s .starts)) (s .lines + 1))
 
-unfoldable pub step : SoFar → List ℕ → Step SoFar
-step s line = withEffect s (lineEffect (s .definitions) (s .blocks) line)
+unfoldable pub step : ℕ → SoFar → List ℕ → Step SoFar
+step charset s line = withEffect s (lineEffect charset (s .definitions) (s .blocks) line)
 
 -- 18, after all line faults: a block that is open at the end, at the line that opened the innermost, without a column
 abbrev pub closedBy : List ℕ → List Definition → Outcome (List Definition)
@@ -70,8 +71,8 @@ closing (accepted s) = closedBy (s .starts) (s .definitions)
 closing (rejected refusal line column) = rejected refusal line column
 
 -- the definitions of a text
-unfoldable pub compiled : List ℕ → Outcome (List Definition)
-compiled text = closing (runText step begun text)
+unfoldable pub compiled : ℕ → List ℕ → Outcome (List Definition)
+compiled charset text = closing (runText (step charset) begun text)
 
 -- the definitions that take effect at some lines, after the definitions and inside the open blocks of the lines before
 abbrev pub andAfter : List Definition → List OpenBlock → Reading → (List Definition → List OpenBlock → List Definition) → List Definition
@@ -80,35 +81,35 @@ andAfter ds bs NoEffect more = more ds bs
 andAfter ds bs (Define d left) more = d ∷ more (ds ++ d ∷ []) bs
 andAfter ds bs (Block line) more = more ds (blocksAfter line bs)
 
-unfoldable pub effectsWithin : List Definition → List OpenBlock → List (List ℕ) → List Definition
-effectsWithin ds bs [] = []
-effectsWithin ds bs (l ∷ ls) = andAfter ds bs (lineEffect ds bs (withoutCR l)) (λ ds′ bs′. effectsWithin ds′ bs′ ls)
+unfoldable pub effectsWithin : ℕ → List Definition → List OpenBlock → List (List ℕ) → List Definition
+effectsWithin charset ds bs [] = []
+effectsWithin charset ds bs (l ∷ ls) = andAfter ds bs (lineEffect charset ds bs (withoutCR l)) (λ ds′ bs′. effectsWithin charset ds′ bs′ ls)
 
 -- where no block is open before the first of the lines
-abbrev pub effects : List Definition → List (List ℕ) → List Definition
-effects ds ls = effectsWithin ds [] ls
+abbrev pub effects : ℕ → List Definition → List (List ℕ) → List Definition
+effects charset ds ls = effectsWithin charset ds [] ls
 
 -- the answer: the count of definitions, or the refusal with its line
 abbrev pub compiledCount : Outcome (List Definition) → Reply ℕ
 compiledCount outcome = outcomeReply (λ (ds : List Definition). length ds) outcome
 
--- the compile call, for a slice of so many words: 2, then 1, then the first faulty line, then a block that is open at the end
-unfoldable pub compileReply : List ℕ → ℕ → Reply ℕ
-compileReply text words =
-    let read : Reply ℕ = compiledCount (compiled text) in
-    pick (ltb words tableWords) (refused 2 0) read
+-- the compile call, for a slice of so many words: 21, then 2, then 1, then the first faulty line, then a block that is open at the end
+unfoldable pub compileReply : ℕ → List ℕ → ℕ → Reply ℕ
+compileReply charset text words =
+    let read : Reply ℕ = compiledCount (compiled charset text) in
+    pick (isCharset charset) (pick (ltb words tableWords) (refused 2 0) read) (refused 21 0)
 
--- and the column of its refusal, which 2 does not have
-unfoldable pub compileColumn : List ℕ → ℕ → ℕ
-compileColumn text words = pick (ltb words tableWords) 0 (outcomeColumn (compiled text))
+-- and the column of its refusal, which 21 and 2 do not have
+unfoldable pub compileColumn : ℕ → List ℕ → ℕ → ℕ
+compileColumn charset text words = pick (isCharset charset) (pick (ltb words tableWords) 0 (outcomeColumn (compiled charset text))) 0
 
--- the 2,048 words: zero where the text is refused
-abbrev pub outcomeWords : Outcome (List Definition) → List ℕ
-outcomeWords (accepted ds) = imageOf ds
-outcomeWords (rejected refusal line column) = replicate tableWords 0
+-- the 2,050 words: zero where the text is refused
+abbrev pub outcomeWords : ℕ → Outcome (List Definition) → List ℕ
+outcomeWords charset (accepted ds) = imageOf charset ds
+outcomeWords charset (rejected refusal line column) = replicate tableWords 0
 
--- the lent slice after the call: refusals 2 and 1 touch nothing, and nothing touches words beyond 2,048
-unfoldable pub compileWords : List ℕ → List ℕ → List ℕ
-compileWords text ws =
-    let written : List ℕ = outcomeWords (compiled text) ++ drop tableWords ws in
-    pick (ltb (length ws) tableWords || ltb textLimit (length text)) ws written
+-- the lent slice after the call: refusals 21, 2 and 1 touch nothing, and nothing touches words beyond 2,050
+unfoldable pub compileWords : ℕ → List ℕ → List ℕ → List ℕ
+compileWords charset text ws =
+    let written : List ℕ = outcomeWords charset (compiled charset text) ++ drop tableWords ws in
+    pick (not (isCharset charset) || (ltb (length ws) tableWords || ltb textLimit (length text))) ws written

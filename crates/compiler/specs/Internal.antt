@@ -11,7 +11,7 @@ use Rattle.blocks.specs.Blocks.{depthLimit}
 use Rattle.blocks.specs.Internal.{noBlocks, blocksOf, startsOf}
 use Rattle.blocks.specs.declared.Blocks.{Blocks}
 use Rattle.definitions.specs.declared.Definition.{Definition}
-use Rattle.table.specs.Words.{tableWords, definitions}
+use Rattle.table.specs.Words.{pairWords, tableWords, charsetOf, definitions}
 use Rattle.table.specs.Internal.{Written}
 use Rattle.compiler.specs.Compile.{SoFar, soFar, step, compiledCount, outcomeWords}
 use Rattle.compiler.specs.declared.State.{State}
@@ -35,12 +35,12 @@ goneOn count lines blocks = record { stopped = No; state = record { count = coun
 
 -- what a line leaves, from the words and the state before it: a refused one leaves them as they were
 pub record Leaves (old : List ℕ) (s : State) (line : List ℕ) (r : Stepped) (new : List ℕ) : Type 0 where
-  pub does : leaves (r .stopped) (standing new (r .state)) ≡ step (standing old s) line
+  pub does : leaves (r .stopped) (standing new (r .state)) ≡ step (charsetOf old) (standing old s) line
   pub ready : Ready new (r .state)
-  pub beyond : drop tableWords new ≡ drop tableWords old
+  pub beyond : drop pairWords new ≡ drop pairWords old
 
 -- the answer, its column, and the words, by what a text gives
 pub record Settled (gives : Outcome (List Definition)) (old : List ℕ) (r : Compiled) (new : List ℕ) : Type 0 where
   pub answer : compiledReply r ≡ compiledCount gives
   pub column : compiledColumn r ≡ outcomeColumn gives
-  pub words : new ≡ outcomeWords gives ++ drop tableWords old
+  pub words : new ≡ outcomeWords (charsetOf old) gives ++ drop tableWords old

@@ -9,13 +9,15 @@ use lines::TEXT_LIMIT;
 use reader::Reading;
 use table::TABLE_WORDS;
 ghost use mathlib.Core.Path.{_≡_};
+ghost use mathlib.Core.Bool.{true};
 ghost use Prim.Native.Nat.{_*_, _≤_, _<_};
 ghost use lib.ListN.{length};
+ghost use Rattle.unicode.specs.Characters.{isCharset};
 ghost use Rattle.lines.specs.Lines.{withoutCR};
 ghost use Rattle.lines.specs.Texts.{textLimit, accepted, compiledReply, compiledColumn};
 ghost use Rattle.blocks.specs.Blocks.{depthLimit};
 ghost use Rattle.blocks.specs.Internal.{blocksOf};
-ghost use Rattle.table.specs.Words.{definitions};
+ghost use Rattle.table.specs.Words.{charsetOf, definitions};
 ghost use Rattle.table.specs.Internal.{Written};
 ghost use Rattle.compiler.specs.Compile.{effectOf, lineEffect, closing, compiled, compileReply, compileColumn, compileWords};
 ghost use Rattle.compiler.specs.Internal.{standing, firstState, Ready, goneOn, Leaves, Settled};
@@ -53,7 +55,7 @@ fn effect_of(words: &[u32], count: usize, reading: Reading) -> Reading
 // open blocks.
 fn line_effect(words: &[u32], count: usize, blocks: Blocks, line: &[u8]) -> Reading
     requires { ⌜ (2 * count ≤ length (now words)) × (blocks .depth ≤ depthLimit) ⌝ }
-    ensures { λ r. ⌜ r ≡ lineEffect (definitions count (now (words .entry))) (blocksOf blocks) (now (line .entry)) ⌝ }
+    ensures { λ r. ⌜ r ≡ lineEffect (charsetOf (now (words .entry))) (definitions count (now (words .entry))) (blocksOf blocks) (now (line .entry)) ⌝ }
 {
     let around = blocks::around_of(blocks);
     effect_of(words, count, reader::read_line(words, count, around, line))
@@ -139,10 +141,10 @@ fn close(words: &mut [u32], state: State) -> Compiled
     }
 }
 
-// Reads the lines of a text into zeroed words; a refusal zeroes them again.
+// Reads the lines of a text into words that are an empty table; a refusal zeroes them.
 fn read_lines(words: &mut [u32], text: &[u8]) -> Compiled
     requires { ⌜ (Written (now words) 0) × (length (now text) ≤ textLimit) ⌝ }
-    ensures { λ r. ⌜ Settled (compiled (now (text .entry))) (now (words .entry)) r (now (words .exit)) ⌝ }
+    ensures { λ r. ⌜ Settled (compiled (charsetOf (now (words .entry))) (now (text .entry))) (now (words .entry)) r (now (words .exit)) ⌝ }
 {
     let mut state = begun();
     let mut at = 0;
@@ -169,11 +171,12 @@ fn read_lines(words: &mut [u32], text: &[u8]) -> Compiled
     close(words, state)
 }
 
-// Compiles a text table: any bytes, any slice.
-pub fn compile(text: &[u8], words: &mut [u32]) -> Compiled
-    ensures answer { λ r. ⌜ compiledReply r ≡ compileReply (now (text .entry)) (length (now (words .entry))) ⌝ }
-    ensures column { λ r. ⌜ compiledColumn r ≡ compileColumn (now (text .entry)) (length (now (words .entry))) ⌝ }
-    ensures words { λ r. ⌜ now (words .exit) ≡ compileWords (now (text .entry)) (now (words .entry)) ⌝ }
+// Compiles a text table in a local character set that there is: any bytes, any slice.
+fn compile_in(charset: u32, text: &[u8], words: &mut [u32]) -> Compiled
+    requires { ⌜ isCharset charset ≡ true ⌝ }
+    ensures answer { λ r. ⌜ compiledReply r ≡ compileReply charset (now (text .entry)) (length (now (words .entry))) ⌝ }
+    ensures column { λ r. ⌜ compiledColumn r ≡ compileColumn charset (now (text .entry)) (length (now (words .entry))) ⌝ }
+    ensures words { λ r. ⌜ now (words .exit) ≡ compileWords charset (now (text .entry)) (now (words .entry)) ⌝ }
 {
     if words.len() < TABLE_WORDS {
         return Compiled::Refused {
@@ -189,6 +192,22 @@ pub fn compile(text: &[u8], words: &mut [u32]) -> Compiled
             column: 0,
         };
     }
-    table::clear(words);
+    table::begin(words, charset);
     read_lines(words, text)
+}
+
+// Compiles a text table: any set, any bytes, any slice.
+pub fn compile(charset: u32, text: &[u8], words: &mut [u32]) -> Compiled
+    ensures answer { λ r. ⌜ compiledReply r ≡ compileReply charset (now (text .entry)) (length (now (words .entry))) ⌝ }
+    ensures column { λ r. ⌜ compiledColumn r ≡ compileColumn charset (now (text .entry)) (length (now (words .entry))) ⌝ }
+    ensures words { λ r. ⌜ now (words .exit) ≡ compileWords charset (now (text .entry)) (now (words .entry)) ⌝ }
+{
+    if unicode::is_charset(charset) {
+        return compile_in(charset, text, words);
+    }
+    Compiled::Refused {
+        refusal: Refusal::UnknownCharset,
+        line: 0,
+        column: 0,
+    }
 }

@@ -12,9 +12,9 @@ use Rattle.definitions.specs.declared.Definition.{Definition}
 use Rattle.definitions.specs.Definitions.{table}
 use Rattle.definitions.specs.Effects.{isDefined}
 use Rattle.definitions.proofs.Admission.{Admits}
-use Rattle.table.specs.Words.{tableWords}
+use Rattle.table.specs.Words.{tableWords, imageOf, charsetOf}
 use Rattle.table.specs.Check.{lentTable}
-use Rattle.table.proofs.Readback.{image-lent}
+use Rattle.table.proofs.Readback.{image-charset, image-lent}
 use Rattle.lookup.specs.Rules.{lookup}
 use Rattle.lookup.specs.Calls.{lookupReply}
 use Rattle.typing.specs.Typing.{nothing, entriesOf, typingReply, typedBy}
@@ -26,9 +26,9 @@ use Rattle.growth.proofs.Rules.{Each, lookup-grown, lookup-same}
 
 -- what is known of a lent slice whose table is ds
 module _ (ws : List ℕ) (ds : List Definition) (lent : lentTable ws ≡ answered ds) where
-  lookup-lent : (c : ℕ) → isScalar c ≡ true → lookupReply ws c ≡ answered (lookup (table ds) c)
+  lookup-lent : (charset : ℕ) → charsetOf ws ≡ charset → (c : ℕ) → isScalar c ≡ true → lookupReply ws c ≡ answered (lookup charset (table ds) c)
   unfolding lookupReply
-  lookup-lent c scalar = rw (lent, scalar)
+  lookup-lent charset set c scalar = rw (lent, set, scalar)
 
   typing-lent : typingReply ws ≡ answered tt
   typing-lent = rw lent
@@ -36,41 +36,46 @@ module _ (ws : List ℕ) (ds : List Definition) (lent : lentTable ws ≡ answere
   typed-lent : (cell : ℕ) → typedBy ws cell ≡ getD (entriesOf ds) cell nothing .types
   typed-lent cell = rw (lent, typedBy)
 
--- a slice as compiled is the table of its text's definitions
-compiled-lent : (text slice : List ℕ) {count : ℕ} (a : AnsweredText text (length slice) count) → lentTable (compileWords text slice) ≡ answered (a .definitions)
-compiled-lent text slice a =
-    let took = whole-took text (a .compiles) in
-    rw (accepted-words text slice (a .enough) (a .compiles)) (image-lent (a .definitions) (took .admits) (took .fit) (drop tableWords slice))
+-- a slice as compiled is the table of its text's definitions, for the set that it was compiled in
+module _ (charset : ℕ) (text slice : List ℕ) {count : ℕ} (a : AnsweredText charset text (length slice) count) where
+  image : compileWords charset text slice ≡ imageOf charset (a .definitions) ++ drop tableWords slice
+  image = accepted-words charset text slice (a .known) (a .enough) (a .compiles)
+
+  compiled-lent : lentTable (compileWords charset text slice) ≡ answered (a .definitions)
+  compiled-lent = let took = whole-took charset text (a .compiles) in rw image (image-lent (a .definitions) (took .admits) (took .fit) charset (drop tableWords slice) (a .known))
+
+  compiled-set : charsetOf (compileWords charset text slice) ≡ charset
+  compiled-set = let took = whole-took charset text (a .compiles) in rw image (image-charset (a .definitions) (took .admits) (took .fit) charset (drop tableWords slice))
 
 -- where no added definition is for what an answer goes by, in terms of the definitions of the first text
-apart-each : (text more : List ℕ) {ds : List Definition} → compiled text ≡ accepted ds → (c : ℕ) → Apart text more c
-    → Each (table ds) (λ x. isDefined (effects ds (linesOf more)) x ≡ false) c
-apart-each text more e c a =
-    let each : Each (table (accepting (compiled text))) (λ x. NotAdded text more x) c =
+apart-each : (charset : ℕ) (text more : List ℕ) {ds : List Definition} → compiled charset text ≡ accepted ds → (c : ℕ) → Apart charset text more c
+    → Each (table ds) (λ x. isDefined (effects charset ds (linesOf more)) x ≡ false) c
+apart-each charset text more e c a =
+    let each : Each (table (accepting (compiled charset text))) (λ x. NotAdded charset text more x) c =
     record { own = a .own; base = a .base; standIn = a .standIn; end = a .end; replacement = a .replacement; question = a .question } in
     rw e at each
 
--- two slices that are the tables of a text and of the same with bytes after it
-module _ (text more first grown : List ℕ) (ds : List Definition) (e : compiled text ≡ accepted ds)
-    (h : Admits [] (ds ++ effects ds (linesOf more)))
-    (lent : lentTable first ≡ answered ds) (lent′ : lentTable grown ≡ answered (ds ++ effects ds (linesOf more))) where
-  lookups : (c : ℕ) → isScalar c ≡ true → Lookups text more first grown c
-  lookups c scalar =
-      let rs = effects ds (linesOf more) in
-      let kept = lookup-grown ds rs h c in
+-- two slices that are the tables of a text and of the same with bytes after it, for one set
+module _ (charset : ℕ) (text more first grown : List ℕ) (ds : List Definition) (e : compiled charset text ≡ accepted ds)
+    (h : Admits [] (ds ++ effects charset ds (linesOf more)))
+    (lent : lentTable first ≡ answered ds) (lent′ : lentTable grown ≡ answered (ds ++ effects charset ds (linesOf more))) where
+  lookups : charsetOf first ≡ charset → charsetOf grown ≡ charset → (c : ℕ) → isScalar c ≡ true → Lookups charset text more first grown c
+  lookups set set′ c scalar =
+      let rs = effects charset ds (linesOf more) in
+      let kept = lookup-grown ds rs h charset c in
       record {
-        before = lookup (table ds) c;
-        after = lookup (table (ds ++ rs)) c;
-        answers-before = lookup-lent first ds lent c scalar;
-        answers-after = lookup-lent grown (ds ++ rs) lent′ c scalar;
+        before = lookup charset (table ds) c;
+        after = lookup charset (table (ds ++ rs)) c;
+        answers-before = lookup-lent first ds lent charset set c scalar;
+        answers-after = lookup-lent grown (ds ++ rs) lent′ charset set′ c scalar;
         rule-falls-or-stays = kept .rule;
         same-rule-same-cell = kept .cell;
-        same-where-apart = λ a. lookup-same ds rs h c (apart-each text more e (localOf c) a);
+        same-where-apart = λ a. lookup-same ds rs h charset c (apart-each charset text more e (localOf charset c) a);
       }
 
   typings : Typings first grown
   typings =
-      let rs = effects ds (linesOf more) in
+      let rs = effects charset ds (linesOf more) in
       record {
         answers-before = typing-lent first ds lent;
         answers-after = typing-lent grown (ds ++ rs) lent′;
@@ -78,17 +83,17 @@ module _ (text more first grown : List ℕ) (ds : List Definition) (e : compiled
       }
 
 -- the whole claim
-pub never-spoils : (text more slice slice′ : List ℕ) → Growing text more slice slice′ → NeverSpoils text more slice slice′
-never-spoils text more slice slice′ g =
-    let a = text-answered text (length slice) (g .accepts) in
-    let b = text-answered (text ++ more) (length slice′) (g .accepts′) in
-    let took = grown-took text more (g .ended) (a .compiles) (b .compiles) in
-    let h = rw (took .after) at (whole-took (text ++ more) (b .compiles) .admits) in
-    let lent = compiled-lent text slice a in
-    let lent′ = rw (took .after) at (compiled-lent (text ++ more) slice′ b) in
-    let first = compileWords text slice in
-    let grown = compileWords (text ++ more) slice′ in
+pub never-spoils : (charset : ℕ) (text more slice slice′ : List ℕ) → Growing charset text more slice slice′ → NeverSpoils charset text more slice slice′
+never-spoils charset text more slice slice′ g =
+    let a = text-answered charset text (length slice) (g .accepts) in
+    let b = text-answered charset (text ++ more) (length slice′) (g .accepts′) in
+    let took = grown-took charset text more (g .ended) (a .compiles) (b .compiles) in
+    let h = rw (took .after) at (whole-took charset (text ++ more) (b .compiles) .admits) in
+    let lent = compiled-lent charset text slice a in
+    let lent′ = rw (took .after) at (compiled-lent charset (text ++ more) slice′ b) in
+    let first = compileWords charset text slice in
+    let grown = compileWords charset (text ++ more) slice′ in
     record {
-      shown = lookups text more first grown (a .definitions) (a .compiles) h lent lent′;
-      typed = typings text more first grown (a .definitions) (a .compiles) h lent lent′;
+      shown = lookups charset text more first grown (a .definitions) (a .compiles) h lent lent′ (compiled-set charset text slice a) (compiled-set charset (text ++ more) slice′ b);
+      typed = typings charset text more first grown (a .definitions) (a .compiles) h lent lent′;
     }

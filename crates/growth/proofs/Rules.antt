@@ -139,10 +139,11 @@ module _ (T G : Table) (keep : (c : ℕ) (m : Meaning) → T .found c ≡ Is m �
       more (cell-kept c) (more (end-kept c) (more (other-kept (baseOf c)) (more (other-kept (standInOf c)) (more (cell-kept 0xFFFD) (more (cell-kept 0x3F) none)))))
 
   -- the rule falls or stays, and the same rule gives the same cell
-  pub not-spoiled : (c : ℕ) → NotSpoiled (lookup T c) (lookup G c)
+  pub not-spoiled : (charset c : ℕ) → NotSpoiled (lookup charset T c) (lookup charset G c)
   unfolding lookup rulesFrom3
-  not-spoiled c =
-      let p = choose-kept (candidates-kept (localOf c)) 3 (walk T (localOf c) .links) (walk G (localOf c) .links) in
+  not-spoiled charset c =
+      let l = localOf charset c in
+      let p = choose-kept (candidates-kept l) 3 (walk T l .links) (walk G l .links) in
       pick-kept (isBraille c) _ (record { rule = omega (arith, p .rule); cell = λ e. p .cell (omega arith) })
 
   same-cell : (c : ℕ) → G .found c ≡ T .found c → explicit G c ≡ explicit T c
@@ -168,9 +169,9 @@ module _ (T G : Table) (keep : (c : ℕ) (m : Meaning) → T .found c ≡ Is m �
   same-rules c h = rw (same-candidates c h, same-walk c (h .end))
 
   -- the answer is the same where both have the same for all that it goes by
-  pub same-answer : (c : ℕ) → Each T (λ x. G .found x ≡ T .found x) (localOf c) → lookup G c ≡ lookup T c
+  pub same-answer : (charset c : ℕ) → Each T (λ x. G .found x ≡ T .found x) (localOf charset c) → lookup charset G c ≡ lookup charset T c
   unfolding lookup
-  same-answer c h = rw (same-rules (localOf c) h)
+  same-answer charset c h = rw (same-rules (localOf charset c) h)
 
 -- ---- definitions, and the same with others after them
 
@@ -182,9 +183,9 @@ module _ (ds rs : List Definition) (h : Admits [] (ds ++ rs)) where
   whole-grown c = walk-walks (ds ++ rs) h c
 
   -- the rule falls or stays, and the same rule gives the same cell
-  pub lookup-grown : (c : ℕ) → NotSpoiled (lookup (table ds) c) (lookup (table (ds ++ rs)) c)
-  lookup-grown c = not-spoiled (table ds) (table (ds ++ rs)) (found-kept ds rs) whole-first whole-grown c
+  pub lookup-grown : (charset c : ℕ) → NotSpoiled (lookup charset (table ds) c) (lookup charset (table (ds ++ rs)) c)
+  lookup-grown charset c = not-spoiled (table ds) (table (ds ++ rs)) (found-kept ds rs) whole-first whole-grown charset c
 
   -- the answer is the same where no later definition is for any character that it goes by
-  pub lookup-same : (c : ℕ) → Each (table ds) (λ x. isDefined rs x ≡ false) (localOf c) → lookup (table (ds ++ rs)) c ≡ lookup (table ds) c
-  lookup-same c apart = same-answer (table ds) (table (ds ++ rs)) (found-kept ds rs) whole-first whole-grown c (each-map (λ x. found-same ds rs x) apart)
+  pub lookup-same : (charset c : ℕ) → Each (table ds) (λ x. isDefined rs x ≡ false) (localOf charset c) → lookup charset (table (ds ++ rs)) c ≡ lookup charset (table ds) c
+  lookup-same charset c apart = same-answer (table ds) (table (ds ++ rs)) (found-kept ds rs) whole-first whole-grown charset c (each-map (λ x. found-same ds rs x) apart)

@@ -8,25 +8,25 @@ oldExamples = "byte a 1\nb 12\nc (14)\nd ( 1  4   5    )\n\\\\ 12567\n\\x20 0\nd
 
 abbrev pub workedEditions : List Case
 workedEditions =
-    countsIn 1 oldExamples 6
-    ∷ showsByte oldExamples 0x61 0x01
-    ∷ showsByte oldExamples 0x64 0x19
-    ∷ showsByte oldExamples 0x5C 0x73
-    ∷ showsByte oldExamples 0x20 0x00
-    ∷ showsByte oldExamples 0x00 0xF9
-    ∷ showsByte oldExamples 0xF5 0xF5
-    ∷ countsIn 1 "# 1\ndot 1 off\n" 0
-    ∷ showsByte "# 1\ndot 1 off\n" 0x23 0xFE
-    ∷ showsByte "byte # 1" 0x23 0x01
-    ∷ showsByte "\\X2a 1" 0x2A 0x01
-    ∷ refusesIn 1 "char a 1" 7 1 1
-    ∷ refusesIn 1 "byte 1" 6 1 7
-    ∷ refusesIn 1 "a # 1" 8 1 3
-    ∷ refusesIn 1 "dot 1 #" 16 1 7
-    ∷ refusesIn 1 "byte \\o101 1" 7 1 6
-    ∷ refusesIn 1 "a 1\n byte \\x61 2" 11 2 2
-    ∷ refusesIn 1 "a 1\na 1 x" 9 2 5
-    ∷ countsIn 2 "char a 1" 1
-    ∷ refusesIn 2 "a 1" 5 1 1
-    ∷ refusesIn 3 "char a 1" 20 0 0
+    countsIn 1 1 oldExamples 6
+    ∷ showsByte 1 oldExamples 0x61 0x01
+    ∷ showsByte 1 oldExamples 0x64 0x19
+    ∷ showsByte 1 oldExamples 0x5C 0x73
+    ∷ showsByte 1 oldExamples 0x20 0x00
+    ∷ showsByte 1 oldExamples 0x00 0xF9
+    ∷ showsByte 1 oldExamples 0xF5 0xF5
+    ∷ countsIn 1 1 "# 1\ndot 1 off\n" 0
+    ∷ showsByte 1 "# 1\ndot 1 off\n" 0x23 0xFE
+    ∷ showsByte 1 "byte # 1" 0x23 0x01
+    ∷ showsByte 1 "\\X2a 1" 0x2A 0x01
+    ∷ refusesIn 1 1 "char a 1" 7 1 1
+    ∷ refusesIn 1 1 "byte 1" 6 1 7
+    ∷ refusesIn 1 1 "a # 1" 8 1 3
+    ∷ refusesIn 1 1 "dot 1 #" 16 1 7
+    ∷ refusesIn 1 1 "byte \\o101 1" 7 1 6
+    ∷ refusesIn 1 1 "a 1\n byte \\x61 2" 11 2 2
+    ∷ refusesIn 1 1 "a 1\na 1 x" 9 2 5
+    ∷ countsIn 2 1 "char a 1" 1
+    ∷ refusesIn 2 1 "a 1" 5 1 1
+    ∷ refusesIn 3 1 "char a 1" 20 0 0
     ∷ []

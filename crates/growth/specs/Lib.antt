@@ -3,3 +3,4 @@ pub mod Marked
 pub mod Blocks
 pub mod Columns
 pub mod Editions
+pub mod Charsets

@@ -25,8 +25,8 @@ abbrev pub smallAttributes : String
 smallAttributes = "dot 1 =fg-red\ndot 4 ~bg-blue\n"
 
 pub data Case : Type 0 where
-  -- a text table and a character: its cell, rule and links
-  shows : String → ℕ → ℕ → ℕ → ℕ → Case
+  -- a local character set, a text table and a character: its cell, rule and links
+  showsIn : ℕ → String → ℕ → ℕ → ℕ → ℕ → Case
   -- a text table and a cell that types nothing
   typesNothing : String → ℕ → Case
   -- an attributes table and an attribute byte: its cell
@@ -34,11 +34,15 @@ pub data Case : Type 0 where
   -- a text table that is refused: the number, the line and the column; and an attributes table
   refuses : String → ℕ → ℕ → ℕ → Case
   refusesDots : String → ℕ → ℕ → ℕ → Case
-  -- an edition and a text: the count; the number, the line and the column of its refusal
-  countsIn : ℕ → String → ℕ → Case
-  refusesIn : ℕ → String → ℕ → ℕ → ℕ → Case
-  -- a byte table and a byte: its cell
-  showsByte : String → ℕ → ℕ → Case
+  -- an edition, a set and a text: the count; the number, the line and the column of its refusal
+  countsIn : ℕ → ℕ → String → ℕ → Case
+  refusesIn : ℕ → ℕ → String → ℕ → ℕ → ℕ → Case
+  -- a set, a byte table and a byte: its cell
+  showsByte : ℕ → String → ℕ → ℕ → Case
+
+-- in ISO 8859-1, as all cases are that name no set
+abbrev pub shows : String → ℕ → ℕ → ℕ → ℕ → Case
+shows text c cell rule links = showsIn 1 text c cell rule links
 
 abbrev pub marked : List Case
 marked =
@@ -57,9 +61,9 @@ marked =
     ∷ raises smallAttributes 0x10 0x00
     ∷ []
 
--- the 2,048 words that a text compiles to in a slice that held something else
-unfoldable pub wordsFor : String → List ℕ
-wordsFor text = compileWords (ascii text) (replicate tableWords 7)
+-- the 2,050 words that a text compiles to in a slice that held something else
+unfoldable pub wordsFor : ℕ → String → List ℕ
+wordsFor charset text = compileWords charset (ascii text) (replicate tableWords 7)
 
 abbrev pub isAnswer : Reply Answer → ℕ → ℕ → ℕ → Bool
 isAnswer (answered a) cell rule links = eqb (a .cell) cell && (eqb (a .rule) rule && eqb (a .links) links)
@@ -75,17 +79,17 @@ isCount (refused number line) count = false
 
 -- whether a case comes out as it is written
 unfoldable pub comesOut : Case → Bool
-comesOut (shows text c cell rule links) = isAnswer (lookupReply (wordsFor text) c) cell rule links
-comesOut (typesNothing text cell) = not (isCharacter (typedBy (wordsFor text) cell))
+comesOut (showsIn charset text c cell rule links) = isAnswer (lookupReply (wordsFor charset text) c) cell rule links
+comesOut (typesNothing text cell) = not (isCharacter (typedBy (wordsFor 1 text) cell))
 comesOut (raises text byte cell) = eqb (attributeCell (outcomePlaces (compiledAttributes (ascii text))) byte) cell
 comesOut (refuses text number line column) =
-    isRefusal (compileReply (ascii text) tableWords) number line && eqb (compileColumn (ascii text) tableWords) column
+    isRefusal (compileReply 1 (ascii text) tableWords) number line && eqb (compileColumn 1 (ascii text) tableWords) column
 comesOut (refusesDots text number line column) =
     isRefusal (attributesReply (compiledAttributes (ascii text))) number line && eqb (outcomeColumn (compiledAttributes (ascii text))) column
-comesOut (countsIn edition text count) = isCount (editionReply edition (ascii text) tableWords) count
-comesOut (refusesIn edition text number line column) =
-    isRefusal (editionReply edition (ascii text) tableWords) number line && eqb (editionColumn edition (ascii text) tableWords) column
-comesOut (showsByte text byte cell) = eqb (getD (editionCells 1 (ascii text)) byte 0) cell
+comesOut (countsIn edition charset text count) = isCount (editionReply edition charset (ascii text) tableWords) count
+comesOut (refusesIn edition charset text number line column) =
+    isRefusal (editionReply edition charset (ascii text) tableWords) number line && eqb (editionColumn edition charset (ascii text) tableWords) column
+comesOut (showsByte charset text byte cell) = eqb (getD (editionCells 1 charset (ascii text)) byte 0) cell
 
 unfoldable pub everyOne : List Case → Bool
 everyOne [] = true

@@ -126,8 +126,8 @@ pub cells-left : (text : List ℕ) {v w : Compiled} {places : List Place} (old :
 cells-left text old long p from q e = long-left compiledReply (cellsOf (outcomePlaces (compiledAttributes text))) old long p q (rw from at e)
 
 -- the cells of a byte table are written also where its text is refused
-pub bytes-short : (text old : List ℕ) → length old < cellCount → old ≡ byteCellsAfter text old
-bytes-short text old short = rw (lt-ltb (length old) cellCount short)
+pub bytes-short : (charset : ℕ) (text old : List ℕ) → length old < cellCount → old ≡ byteCellsAfter charset text old
+bytes-short charset text old short = rw (lt-ltb (length old) cellCount short)
 
-pub bytes-left : (text : List ℕ) {all : List ℕ} (old : List ℕ) {left : List ℕ} → cellCount ≤ length old → all ≡ outcomeCells (compiledBytes text) → left ≡ over all old → left ≡ byteCellsAfter text old
-bytes-left text old long from e = rw (le-ltb (length old) cellCount long, ← from) e
+pub bytes-left : (charset : ℕ) (text : List ℕ) {all : List ℕ} (old : List ℕ) {left : List ℕ} → cellCount ≤ length old → all ≡ outcomeCells (compiledBytes charset text) → left ≡ over all old → left ≡ byteCellsAfter charset text old
+bytes-left charset text old long from e = rw (le-ltb (length old) cellCount long, ← from) e

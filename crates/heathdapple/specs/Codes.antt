@@ -100,12 +100,12 @@ cellsOf places = map (λ (byte : ℕ). attributeCell places byte) (numbersFrom 0
 abbrev pub cellsAfter : List ℕ → List ℕ → List ℕ
 cellsAfter text old = after (cellsReply text (length old)) (cellsOf (outcomePlaces (compiledAttributes text))) old
 
--- the cells of all bytes of a byte table: those of a refused text are written too
-abbrev pub byteCellsReply : List ℕ → ℕ → Reply ℕ
-byteCellsReply text room = withRoom room (bytesReply (compiledBytes text))
+-- the cells of all bytes of a byte table: those of a refused text are written too, and those under 21
+abbrev pub byteCellsReply : ℕ → List ℕ → ℕ → Reply ℕ
+byteCellsReply charset text room = withRoom room (bytesReply (compiledBytes charset text))
 
-abbrev pub byteCellsColumn : List ℕ → ℕ → ℕ
-byteCellsColumn text room = columnWithRoom room (outcomeColumn (compiledBytes text))
+abbrev pub byteCellsColumn : ℕ → List ℕ → ℕ → ℕ
+byteCellsColumn charset text room = columnWithRoom room (outcomeColumn (compiledBytes charset text))
 
-abbrev pub byteCellsAfter : List ℕ → List ℕ → List ℕ
-byteCellsAfter text old = pick (ltb (length old) cellCount) old (over (outcomeCells (compiledBytes text)) old)
+abbrev pub byteCellsAfter : ℕ → List ℕ → List ℕ → List ℕ
+byteCellsAfter charset text old = pick (ltb (length old) cellCount) old (over (outcomeCells (compiledBytes charset text)) old)

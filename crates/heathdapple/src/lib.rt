@@ -56,14 +56,14 @@ fn compile_code(answer: Compiled) -> u64
     }
 }
 
-// Compiles a text table of edition 2 into 2,048 words of `words`, or reads a byte table, edition 1, and leaves them: the
-// count of definitions or of byte lines, or the refusal with its line and column.
+// Compiles a text table of edition 2 into 2,050 words of `words`, or reads a byte table, edition 1, and leaves them, in a
+// local character set: the count of definitions or of byte lines, or the refusal with its line and column.
 #[no_mangle]
-pub extern "C" fn heathdapple_compile(edition: u32, text: &[u8], words: &mut [u32]) -> u64
-    ensures code { λ r. ⌜ r ≡ compileCode (editionColumn edition (now (text .entry)) (length (now (words .entry)))) (editionReply edition (now (text .entry)) (length (now (words .entry)))) ⌝ }
-    ensures words { λ r. ⌜ now (words .exit) ≡ editionWords edition (now (text .entry)) (now (words .entry)) ⌝ }
+pub extern "C" fn heathdapple_compile(edition: u32, set: u32, text: &[u8], words: &mut [u32]) -> u64
+    ensures code { λ r. ⌜ r ≡ compileCode (editionColumn edition set (now (text .entry)) (length (now (words .entry)))) (editionReply edition set (now (text .entry)) (length (now (words .entry)))) ⌝ }
+    ensures words { λ r. ⌜ now (words .exit) ≡ editionWords edition set (now (text .entry)) (now (words .entry)) ⌝ }
 {
-    let done = editions::compile(edition, text, words);
+    let done = editions::compile(edition, set, text, words);
     let answer = done.answer;
     compile_code(answer)
 }
@@ -260,17 +260,17 @@ fn put_bytes(all: [u8; 256], cells: &mut [u8])
     }
 }
 
-// The cells of all bytes by a byte table's text, edition 1, at the front of `cells`, all 255 if it is refused: the count of
-// byte lines, or the refusal with its line and column.
+// The cells of all bytes by a byte table's text, edition 1, in a local character set, at the front of `cells`, all 255 if it
+// is refused: the count of byte lines, or the refusal with its line and column.
 #[no_mangle]
-pub extern "C" fn heathdapple_byte_cells(text: &[u8], cells: &mut [u8]) -> u64
-    ensures code { λ r. ⌜ r ≡ compileCode (byteCellsColumn (now (text .entry)) (length (now (cells .entry)))) (byteCellsReply (now (text .entry)) (length (now (cells .entry)))) ⌝ }
-    ensures cells { λ r. ⌜ now (cells .exit) ≡ byteCellsAfter (now (text .entry)) (now (cells .entry)) ⌝ }
+pub extern "C" fn heathdapple_byte_cells(set: u32, text: &[u8], cells: &mut [u8]) -> u64
+    ensures code { λ r. ⌜ r ≡ compileCode (byteCellsColumn set (now (text .entry)) (length (now (cells .entry)))) (byteCellsReply set (now (text .entry)) (length (now (cells .entry)))) ⌝ }
+    ensures cells { λ r. ⌜ now (cells .exit) ≡ byteCellsAfter set (now (text .entry)) (now (cells .entry)) ⌝ }
 {
     if cells.len() < CELL_COUNT {
         return refusal_code(Refusal::ShortSlice, 0, 0);
     }
-    let table = byte_tables::compile_bytes(text);
+    let table = byte_tables::compile_bytes(set, text);
     let answer = table.answer;
     let all = table.cells;
     put_bytes(all, cells);

@@ -82,19 +82,19 @@ module _ (T : Table) (c : ℕ) (w : Walked) (from : w ≡ walkWithCell T c) wher
 pub rule-fits : (T : Table) (last : LastCells) (c : ℕ) (a : Answer) → a ≡ rulesBy T last c → a .rule + 16 < 256
 rule-fits T last c a e = rw e (omega (arith, choose-chosen 3 (explicit T c ∷ endCell T (walk T c) ∷ laterCandidates T last c) (walk T c .links)))
 
--- rule 2: what the other rules answer, of the character as it stands then
-module _ (T : Table) (last : LastCells) (c l : ℕ) (p : Bool) (a : Answer) (local : l ≡ localOf c) (others : a ≡ rulesBy T last l) (private : p ≡ isPrivate c) where
-  pub rule-passed : p ≡ true → record { cell = a .cell; rule = a .rule + 16; links = a .links } ≡ passed (isPrivate c) (rulesBy T last (localOf c))
-  rule-passed is = rw (told private is, others, local)
+-- rule 2: what the other rules answer, of the character as it stands then, in the set that a call answered
+module _ (charset : ℕ) (T : Table) (last : LastCells) (c s l : ℕ) (p : Bool) (a : Answer) (set : s ≡ charset) (local : l ≡ localOf s c) (others : a ≡ rulesBy T last l) (private : p ≡ isPrivate c) where
+  pub rule-passed : p ≡ true → record { cell = a .cell; rule = a .rule + 16; links = a .links } ≡ passed (isPrivate c) (rulesBy T last (localOf charset c))
+  rule-passed is = rw (told private is, others, local, set)
 
-  pub rule-others : p ≡ false → a ≡ passed (isPrivate c) (rulesBy T last (localOf c))
-  rule-others is = rw (told private is, others, local, add-zero)
+  pub rule-others : p ≡ false → a ≡ passed (isPrivate c) (rulesBy T last (localOf charset c))
+  rule-others is = rw (told private is, others, local, set, add-zero)
 
 -- the cells of rules 7 and 8, as two calls answered them
 pub both-asked : (T : Table) {replacement question : Cell} → replacement ≡ explicit T 0xFFFD → question ≡ explicit T 0x3F → record { replacement = replacement; question = question } ≡ lastCells T
 both-asked T p q = rw (p, q)
 
 -- with the table's own cells for rules 7 and 8 the rules are those of the papers
-pub by-last : (T : Table) (c : ℕ) {last : LastCells} {a : Answer} → last ≡ lastCells T → a ≡ lookupBy T last c → a ≡ lookup T c
+pub by-last : (charset : ℕ) (T : Table) (c : ℕ) {last : LastCells} {a : Answer} → last ≡ lastCells T → a ≡ lookupBy charset T last c → a ≡ lookup charset T c
 unfolding lookup rulesFrom3 candidates
-by-last T c e p = rw e at p
+by-last charset T c e p = rw e at p

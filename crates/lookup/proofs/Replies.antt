@@ -10,11 +10,10 @@ use borrow.Author.Tests.{le-ltb, not-true, not-false}
 use Rattle.basics.specs.Choice.{pick}
 use Rattle.basics.specs.Refusals.{Reply, answered, refused, andThen}
 use Rattle.unicode.specs.Characters.{isScalar}
-use Rattle.definitions.specs.declared.Definition.{Definition}
 use Rattle.definitions.specs.Definitions.{table}
 use Rattle.table.specs.declared.Checked.{Checked}
 use Rattle.table.specs.declared.Checked.the-variants.{Sound, FaultAt}
-use Rattle.table.specs.Words.{tableWords, definitions, tableOf}
+use Rattle.table.specs.Words.{tableWords, charsetOf, definitions, tableOf}
 use Rattle.table.specs.Check.{checkOf, lentTable}
 use Rattle.table.proofs.Lent.{lent-fault, lent-sound}
 use Rattle.lookup.specs.declared.Answer.{Answer}
@@ -33,7 +32,7 @@ module _ (ws : List ℕ) (c : ℕ) where
   look-refused e = rw e
 
   pub look-sound : (n : ℕ) {r : Checked} {v : Reply Answer} → tableWords ≤ length ws → r ≡ checkOf ws → r ≡ Sound n
-      → v ≡ pick (isScalar c) (answered (lookup (table (definitions n ws)) c)) (refused 14 0) → v ≡ lookupReply ws c
+      → v ≡ pick (isScalar c) (answered (lookup (charsetOf ws) (table (definitions n ws)) c)) (refused 14 0) → v ≡ lookupReply ws c
   unfolding lookupReply
   look-sound n h p q e = rw (lent-sound ws n h p q) e
 
@@ -65,7 +64,7 @@ same-rule e = rw e
 -- ---- the page call
 
 module _ (ws cs cells rules : List ℕ) where
-  abbrev plan : Reply (List Definition)
+  abbrev plan : Reply (ℕ → Answer)
   plan = pagePlan ws cs (length cells) (length rules)
 
   -- what the contract says of a page call that answers so and leaves those bytes
@@ -76,7 +75,7 @@ module _ (ws cs cells rules : List ℕ) where
   page-refused e = rw e (record { answer = refl; cells = refl; rules = refl })
 
   module _ {r : Checked} (long : tableWords ≤ length ws) (wide : length cs ≤ length cells) (deep : length cs ≤ length rules) (p : r ≡ checkOf ws) where
-    planned : plan ≡ andThen (lentTable ws) (λ ds. unlessAt (firstNoScalar cs 0) ds)
+    planned : plan ≡ andThen (lentTable ws) (λ ds. unlessAt (firstNoScalar cs 0) (lookup (charsetOf ws) (table ds)))
     unfolding pagePlan
     planned = rw (le-ltb (length cells) (length cs) wide, le-ltb (length rules) (length cs) deep)
 
@@ -88,15 +87,15 @@ module _ (ws cs cells rules : List ℕ) where
       page-no-scalar e = page-refused (planned ∙ rw (lent-sound ws n long p q, ← from, e))
 
       pub page-filled : {last : LastCells} {new-cells new-rules : List ℕ} → s ≡ Nowhere → last ≡ lastCells (tableOf n ws)
-          → new-cells ≡ over (map (λ (c : ℕ). lookupBy (tableOf n ws) last c .cell) cs) cells
-          → new-rules ≡ over (map (λ (c : ℕ). lookupBy (tableOf n ws) last c .rule) cs) rules
+          → new-cells ≡ over (map (λ (c : ℕ). lookupBy (charsetOf ws) (tableOf n ws) last c .cell) cs) cells
+          → new-rules ≡ over (map (λ (c : ℕ). lookupBy (charsetOf ws) (tableOf n ws) last c .rule) cs) rules
           → Settles (answered tt) new-cells new-rules
       unfolding lookup rulesFrom3 candidates
       page-filled e own to-cells to-rules =
-          let all : plan ≡ answered (definitions n ws) = planned ∙ rw (lent-sound ws n long p q, ← from, e) in
+          let all : plan ≡ answered (lookup (charsetOf ws) (tableOf n ws)) = planned ∙ rw (lent-sound ws n long p q, ← from, e) in
           rw (to-cells, to-rules, all, own) (record { answer = refl; cells = refl; rules = refl })
 
 -- its answer given otherwise: told is what the call answers, and v is how it is given
-pub pages-given : {A : Type 0} (given : Reply (Unit {0}) → A) {plan : Reply (List Definition)} {cs cells rules new-cells new-rules : List ℕ} {told : Reply (Unit {0})} {v : A}
+pub pages-given : {A : Type 0} (given : Reply (Unit {0}) → A) {plan : Reply (ℕ → Answer)} {cs cells rules new-cells new-rules : List ℕ} {told : Reply (Unit {0})} {v : A}
     → Pages (λ reply. reply) plan cs cells rules told new-cells new-rules → v ≡ given told → Pages given plan cs cells rules v new-cells new-rules
 pages-given given p e = record { answer = e ∙ ap given (p .answer); cells = p .cells; rules = p .rules }

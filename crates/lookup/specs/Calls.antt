@@ -10,6 +10,7 @@ use Rattle.basics.specs.Refusals.{numberOf, Reply, answered, refused, andThen}
 use Rattle.unicode.specs.Characters.{isScalar, isBraille, localOf}
 use Rattle.definitions.specs.declared.Definition.{Definition}
 use Rattle.definitions.specs.Definitions.{table, walk, aliases, WholeWalk}
+use Rattle.table.specs.Words.{charsetOf}
 use Rattle.table.specs.Check.{lentTable}
 use Rattle.lookup.specs.Rules.{lookup}
 use Rattle.lookup.specs.declared.Answer.{Answer}
@@ -20,7 +21,7 @@ use Rattle.lookup.specs.declared.NoScalar.the-variants.{Nowhere, At}
 
 -- the lookup call
 unfoldable pub lookupReply : List ℕ → ℕ → Reply Answer
-lookupReply ws c = andThen (lentTable ws) (λ ds. pick (isScalar c) (answered (lookup (table ds) c)) (refused 14 0))
+lookupReply ws c = andThen (lentTable ws) (λ ds. pick (isScalar c) (answered (lookup (charsetOf ws) (table ds) c)) (refused 14 0))
 
 -- the number, place and values of each case of its answer
 abbrev pub lookedReply : Looked → Reply Answer
@@ -28,16 +29,16 @@ lookedReply (L.Answered a) = answered a
 lookedReply (L.Refused refusal place) = refused (numberOf refusal) place
 
 -- "the links followed", as a lookup answers them: rule 1 follows none; else they are the whole walk of the character as it stands after rule 2
-pub record Followed (ds : List Definition) (c links : ℕ) : Type 0 where
-  pub walked : links ≡ pick (isBraille c) 0 (walk (table ds) (localOf c) .links)
-  pub whole : WholeWalk ds (localOf c)
+pub record Followed (charset : ℕ) (ds : List Definition) (c links : ℕ) : Type 0 where
+  pub walked : links ≡ pick (isBraille c) 0 (walk (table ds) (localOf charset c) .links)
+  pub whole : WholeWalk ds (localOf charset c)
   pub within : links ≤ aliases ds
 
 -- what is promised of the links of an answer on the table that was lent
-abbrev pub LentLinks : Reply (List Definition) → ℕ → Reply Answer → Type 0
-LentLinks (answered ds) c (answered a) = Followed ds c (a .links)
-LentLinks (answered ds) c (refused number place) = Unit {0}
-LentLinks (refused number place) c reply = Unit {0}
+abbrev pub LentLinks : ℕ → Reply (List Definition) → ℕ → Reply Answer → Type 0
+LentLinks charset (answered ds) c (answered a) = Followed charset ds c (a .links)
+LentLinks charset (answered ds) c (refused number place) = Unit {0}
+LentLinks charset (refused number place) c reply = Unit {0}
 
 -- the first character that is no scalar value, the first of the list at i
 unfoldable pub firstNoScalar : List ℕ → ℕ → NoScalar
@@ -50,31 +51,31 @@ abbrev pub unlessAt : {A : Type 0} → NoScalar → A → Reply A
 unlessAt Nowhere a = answered a
 unlessAt (At i) a = refused 14 i
 
--- the page call, for buffers of so many bytes: the definitions that fill them, or a refusal
-unfoldable pub pagePlan : List ℕ → List ℕ → ℕ → ℕ → Reply (List Definition)
+-- the page call, for buffers of so many bytes: the lookup that fills them, or a refusal
+unfoldable pub pagePlan : List ℕ → List ℕ → ℕ → ℕ → Reply (ℕ → Answer)
 pagePlan ws cs cells rules =
     pick (ltb cells (length cs) || ltb rules (length cs)) (refused 2 0)
-    (andThen (lentTable ws) (λ ds. unlessAt (firstNoScalar cs 0) ds))
+    (andThen (lentTable ws) (λ ds. unlessAt (firstNoScalar cs 0) (lookup (charsetOf ws) (table ds))))
 
 -- its answer has no value
-abbrev pub pageReply : Reply (List Definition) → Reply (Unit {0})
-pageReply plan = andThen plan (λ ds. answered tt)
+abbrev pub pageReply : Reply (ℕ → Answer) → Reply (Unit {0})
+pageReply plan = andThen plan (λ look. answered tt)
 
 -- new bytes at the front of a buffer; those past them stay
 abbrev pub over : List ℕ → List ℕ → List ℕ
 over new old = new ++ drop (length new) old
 
 -- the cell buffer and the rule buffer after the call, from what they held: a refusal writes nothing
-abbrev pub pageCells : Reply (List Definition) → List ℕ → List ℕ → List ℕ
-pageCells (answered ds) cs old = over (map (λ (c : ℕ). lookup (table ds) c .cell) cs) old
+abbrev pub pageCells : Reply (ℕ → Answer) → List ℕ → List ℕ → List ℕ
+pageCells (answered look) cs old = over (map (λ (c : ℕ). look c .cell) cs) old
 pageCells (refused number place) cs old = old
 
-abbrev pub pageRules : Reply (List Definition) → List ℕ → List ℕ → List ℕ
-pageRules (answered ds) cs old = over (map (λ (c : ℕ). lookup (table ds) c .rule) cs) old
+abbrev pub pageRules : Reply (ℕ → Answer) → List ℕ → List ℕ → List ℕ
+pageRules (answered look) cs old = over (map (λ (c : ℕ). look c .rule) cs) old
 pageRules (refused number place) cs old = old
 
 -- what the call is to do by its plan: its answer, given as `given` says, and both buffers
-pub record Pages {A : Type 0} (given : Reply (Unit {0}) → A) (plan : Reply (List Definition)) (cs old-cells old-rules : List ℕ) (told : A) (new-cells new-rules : List ℕ) : Type 0 where
+pub record Pages {A : Type 0} (given : Reply (Unit {0}) → A) (plan : Reply (ℕ → Answer)) (cs old-cells old-rules : List ℕ) (told : A) (new-cells new-rules : List ℕ) : Type 0 where
   pub answer : told ≡ given (pageReply plan)
   pub cells : new-cells ≡ pageCells plan cs old-cells
   pub rules : new-rules ≡ pageRules plan cs old-rules

@@ -25,7 +25,7 @@ laterCandidates T last c = explicitOf T (baseOf c) ∷ explicitOf T (standInOf c
 abbrev pub rulesBy : Table → LastCells → ℕ → Answer
 rulesBy T last c = choose 3 (explicit T c ∷ endCell T (walk T c) ∷ laterCandidates T last c) (walk T c .links)
 
-abbrev pub lookupBy : Table → LastCells → ℕ → Answer
-lookupBy T last c =
-    let others : Answer = passed (isPrivate c) (rulesBy T last (localOf c)) in
+abbrev pub lookupBy : ℕ → Table → LastCells → ℕ → Answer
+lookupBy charset T last c =
+    let others : Answer = passed (isPrivate c) (rulesBy T last (localOf charset c)) in
     pick (isBraille c) (record { cell = c % 256; rule = 1; links = 0 }) others

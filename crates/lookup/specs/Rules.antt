@@ -50,8 +50,8 @@ rulesFrom3 T c = choose 3 (candidates T c) (walk T c .links)
 abbrev pub passed : Bool → Answer → Answer
 passed two a = record { cell = a .cell; rule = a .rule + pick two 16 0; links = a .links }
 
--- rule 1, else rule 2 and the others
-unfoldable pub lookup : Table → ℕ → Answer
-lookup T c =
-    let others : Answer = passed (isPrivate c) (rulesFrom3 T (localOf c)) in
+-- rule 1, else rule 2, by a local character set, and the others
+unfoldable pub lookup : ℕ → Table → ℕ → Answer
+lookup charset T c =
+    let others : Answer = passed (isPrivate c) (rulesFrom3 T (localOf charset c)) in
     pick (isBraille c) (record { cell = c % 256; rule = 1; links = 0 }) others

@@ -10,7 +10,7 @@ ghost use mathlib.Core.List.{map};
 ghost use Prim.Native.Nat.{_+_, _*_, _≤_, _<_};
 ghost use lib.ListN.{length};
 ghost use Rattle.basics.specs.Refusals.{fillingReply};
-ghost use Rattle.table.specs.Words.{tableOf};
+ghost use Rattle.table.specs.Words.{charsetOf, tableOf};
 ghost use Rattle.table.specs.Check.{lentTable};
 ghost use Rattle.lookup.specs.Rules.{explicitOf, choose};
 ghost use Rattle.lookup.specs.Calls.{lookupReply, lookedReply, LentLinks, firstNoScalar, pagePlan, over, Pages};
@@ -144,7 +144,7 @@ fn rules_from_3(words: &[u32], count: usize, last: LastCells, c: u32) -> Answer
 // The answer for a scalar value, by all the rules.
 fn answer_of(words: &[u32], count: usize, last: LastCells, c: u32) -> Answer
     requires { ⌜ 2 * count ≤ length (now words) ⌝ }
-    ensures { λ r. ⌜ r ≡ lookupBy (tableOf count (now (words .entry))) last c ⌝ }
+    ensures { λ r. ⌜ r ≡ lookupBy (charsetOf (now (words .entry))) (tableOf count (now (words .entry))) last c ⌝ }
 {
     if unicode::is_braille(c) {
         return Answer {
@@ -153,7 +153,8 @@ fn answer_of(words: &[u32], count: usize, last: LastCells, c: u32) -> Answer
             links: 0,
         };
     }
-    let a = rules_from_3(words, count, last, unicode::local_of(c));
+    let charset = table::charset_of(words);
+    let a = rules_from_3(words, count, last, unicode::local_of(charset, c));
     if unicode::is_private(c) {
         return Answer {
             cell: a.cell,
@@ -167,7 +168,7 @@ fn answer_of(words: &[u32], count: usize, last: LastCells, c: u32) -> Answer
 // The lookup call: any slice, any number.
 pub fn look_up(words: &[u32], c: u32) -> Looked
     ensures answer { λ r. ⌜ lookedReply r ≡ lookupReply (now (words .entry)) c ⌝ }
-    ensures links { λ r. ⌜ LentLinks (lentTable (now (words .entry))) c (lookedReply r) ⌝ }
+    ensures links { λ r. ⌜ LentLinks (charsetOf (now (words .entry))) (lentTable (now (words .entry))) c (lookedReply r) ⌝ }
 {
     if words.len() < TABLE_WORDS {
         return Looked::Refused(Refusal::ShortSlice, 0);
@@ -208,8 +209,8 @@ pub fn fill(
     rules: &mut [u8],
 )
     requires { ⌜ (2 * count ≤ length (now words)) × (length (now characters) ≤ length (now cells)) × (length (now characters) ≤ length (now rules)) ⌝ }
-    ensures cells { λ r. ⌜ now (cells .exit) ≡ over (map (λ c. lookupBy (tableOf count (now (words .entry))) last c .cell) (now (characters .entry))) (now (cells .entry)) ⌝ }
-    ensures rules { λ r. ⌜ now (rules .exit) ≡ over (map (λ c. lookupBy (tableOf count (now (words .entry))) last c .rule) (now (characters .entry))) (now (rules .entry)) ⌝ }
+    ensures cells { λ r. ⌜ now (cells .exit) ≡ over (map (λ c. lookupBy (charsetOf (now (words .entry))) (tableOf count (now (words .entry))) last c .cell) (now (characters .entry))) (now (cells .entry)) ⌝ }
+    ensures rules { λ r. ⌜ now (rules .exit) ≡ over (map (λ c. lookupBy (charsetOf (now (words .entry))) (tableOf count (now (words .entry))) last c .rule) (now (characters .entry))) (now (rules .entry)) ⌝ }
 {
     let mut i = 0;
     while i < characters.len() {

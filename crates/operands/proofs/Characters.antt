@@ -1,7 +1,7 @@
 -- The number that a word is, as the calls on its bytes answered it, and the loop over digits.
 use Prim.Native.Nat.{ℕ, _+_, _<_, _≤_}
 use mathlib.Core.Path.{_≡_, refl}
-use mathlib.Core.Bool.{false, and-false}
+use mathlib.Core.Bool.{Bool, false, and-false}
 use mathlib.Core.List.{List}
 use lib.ListN.{length, drop, getD, List·getD-eq-default}
 use native.Mathlib.Omega.{arith}
@@ -11,7 +11,7 @@ use Rattle.basics.specs.declared.Maybe.{Maybe}
 use Rattle.basics.specs.declared.Maybe.the-variants.{Nothing, Character}
 use Rattle.basics.proofs.Loops.{next-element, no-element}
 use Rattle.unicode.specs.Characters.{isScalar}
-use Rattle.operands.specs.Characters.{noNumber, backslash, digitOf, withDigit, digitsFrom, plainOf, shortOf, radixOf, wordNumber, characterOf, isUnicodeEscape}
+use Rattle.operands.specs.Characters.{noNumber, backslash, digitOf, withDigit, digitsFrom, plainOf, shortOf, radixOf, wordNumber, characterOf, isUnicodeEscape, isEscape}
 
 -- the loop over the digits; x is what it is to answer
 module _ (x radix : ℕ) (w : List ℕ) (i n : ℕ) (inv : digitsFrom radix (drop i w) n ≡ x) where
@@ -51,6 +51,18 @@ pub by-number : (w : List ℕ) (n : ℕ) {r : Maybe} → n ≡ wordNumber w → 
 unfolding characterOf
 by-number w n e q = rw (← e) q
 
--- a word of fewer than two bytes is no escape
+-- no word is no escape
+pub no-word : (w : List ℕ) → length w ≡ 0 → false ≡ isEscape w
+no-word w h = rw (List·getD-eq-default w 0 {n = 0} (omega arith))
+
+-- a word of fewer than two bytes is no escape by `\u`
 pub no-escape : (w : List ℕ) → length w < 2 → false ≡ isUnicodeEscape w
 no-escape w h = rw (List·getD-eq-default w 0 {n = 1} (omega arith), and-false)
+
+-- whether the number stands by an escape, as a call answered it
+pub by-escape : (a b : Maybe) {e x : Bool} {r : Maybe} → e ≡ x → r ≡ pick e a b → r ≡ pick x a b
+by-escape a b q h = rw (← q) h
+
+-- the character of a byte, as a call answered it
+pub its-character : {x y : ℕ} → x ≡ y → Character x ≡ Character y
+its-character e = rw e

@@ -1,19 +1,21 @@
 -- What operands answer is in range: a character is a scalar value, dots are those of one cell.
 use Prim.Native.Nat.{ℕ, suc, _+_, _-_, _*_, _/_, _%_, _^_, _<_}
-use mathlib.Core.Path.{_≡_}
+use mathlib.Core.Path.{_≡_, refl}
 use mathlib.Core.Bool.{Bool, true, _&&_}
 use mathlib.Core.List.{List, [], _∷_}
 use native.Mathlib.Nat.{div-lt-iff-lt-mul, add-div-right, pow-suc}
 use native.Mathlib.Omega.{arith}
 use lib.Dec.{eqb, leb, lit<}
 use lib.Pow.{pow-pos, pow-add}
-use borrow.Author.Tests.{eqb-true, leb-true, lt-ltb}
+use borrow.Author.Tests.{eqb-true, leb-true}
 use Rattle.basics.specs.Choice.{ifCharacter}
 use Rattle.basics.proofs.Tests.{by-test, either, both}
 use Rattle.basics.specs.declared.Maybe.{Maybe}
 use Rattle.basics.specs.declared.Maybe.the-variants.{Nothing, Character}
-use Rattle.unicode.specs.Characters.{isScalar}
-use Rattle.operands.specs.Characters.{characterOf, localByte, byteOf}
+use Rattle.unicode.specs.Characters.{isScalar, asByte, localCharacter, localByte}
+use Rattle.unicode.specs.Internal.{EightBits}
+use Rattle.unicode.proofs.Charsets.{local-scalar, byte-small}
+use Rattle.operands.specs.Characters.{characterOf, byteOf, byteCharacterOf}
 use Rattle.operands.specs.Dots.{raiseBy, raise, raiseInside, ifRaised, endsAt, digitsAt, insideAt, cellAt, dotsAt}
 use Rattle.operands.specs.Operands.{characterAt, dotsFault, dotsOperandAt}
 use Rattle.operands.specs.declared.Raised.{Raised}
@@ -39,21 +41,37 @@ character-in-range : (w : List ℕ) → CharacterInRange (characterOf w)
 unfolding characterOf
 character-in-range w = search (by-test CharacterInRange)
 
--- a byte is a scalar value
-local-in-range : (n : ℕ) → CharacterInRange (localByte n)
-local-in-range n = by-test CharacterInRange (leb n 255) (λ e. rw (lt-ltb n 0xD800 (omega (arith, leb-true n 255 e)))) (λ e. tt)
-
 if-character : {A : Type 0} (P : A → Type 0) (m : Maybe) {none : A} {some : ℕ → A} → P none → ((c : ℕ) → isScalar c ≡ true → P (some c)) → CharacterInRange m → P (ifCharacter m none some)
 if-character P Nothing n s h = n
 if-character P (Character c) n s h = s c h
 
-byte-in-range : (w : List ℕ) → CharacterInRange (byteOf w)
-unfolding byteOf
-byte-in-range w = search (either CharacterInRange, if-character CharacterInRange, local-in-range, character-in-range)
+-- a byte has eight bits, however it is written
+number-small : (n : ℕ) → EightBits (asByte n)
+number-small n = by-test EightBits (leb n 255) (λ e. omega (arith, leb-true n 255 e)) (λ e. tt)
 
-pub value-in-range : (byte : Bool) (line : List ℕ) (at : ℕ) → OperandInRange (characterAt byte line at)
+local-small : (charset n : ℕ) → EightBits (localByte charset n)
+local-small charset n = go (localByte charset n) refl
+  where
+    go : (m : Maybe) → localByte charset n ≡ m → EightBits m
+    go Nothing e = tt
+    go (Character byte) e = byte-small charset n byte e
+
+byte-small-of : (charset : ℕ) (w : List ℕ) → EightBits (byteOf charset w)
+unfolding byteOf
+byte-small-of charset w = search (either EightBits, if-character EightBits, number-small, local-small, character-in-range)
+
+-- and its character is a scalar value
+byte-character-in-range : (charset : ℕ) (w : List ℕ) → CharacterInRange (byteCharacterOf charset w)
+unfolding byteCharacterOf
+byte-character-in-range charset w = go (byteOf charset w) (byte-small-of charset w)
+  where
+    go : (m : Maybe) → EightBits m → CharacterInRange (ifCharacter m Nothing (λ byte. Character (localCharacter charset byte)))
+    go Nothing h = tt
+    go (Character byte) h = local-scalar charset byte h
+
+pub value-in-range : (charset : ℕ) (byte : Bool) (line : List ℕ) (at : ℕ) → OperandInRange (characterAt charset byte line at)
 unfolding characterAt
-value-in-range byte line at = search (either OperandInRange, if-character OperandInRange, either CharacterInRange, byte-in-range, character-in-range)
+value-in-range charset byte line at = search (either OperandInRange, if-character OperandInRange, either CharacterInRange, byte-character-in-range, character-in-range)
 
 -- ---- dots: each answer is a cell
 

@@ -1,4 +1,5 @@
--- The character operand and the byte operand: a whole word to a character. Number 0x110000 stands for none, and is no scalar value.
+-- The character operand and the byte operand: a whole word to a character, and to a byte of a local character set. Number 0x110000
+-- stands for none, and is no scalar value.
 use Prim.Native.Nat.{ℕ, _+_, _-_, _*_, _%_}
 use mathlib.Core.Bool.{Bool, _&&_, _||_}
 use mathlib.Core.List.{List, [], _∷_}
@@ -7,7 +8,7 @@ use lib.Dec.{ltb, leb, eqb}
 use Rattle.basics.specs.Choice.{pick, ifCharacter}
 use Rattle.basics.specs.declared.Maybe.{Maybe}
 use Rattle.basics.specs.declared.Maybe.the-variants.{Nothing, Character}
-use Rattle.unicode.specs.Characters.{isScalar, localCharacter}
+use Rattle.unicode.specs.Characters.{isScalar, asByte, localCharacter, localByte}
 
 abbrev pub noNumber : ℕ
 noNumber = 0x110000
@@ -84,9 +85,15 @@ characterOf w = pick (isScalar (wordNumber w)) (Character (wordNumber w)) Nothin
 abbrev pub isUnicodeEscape : List ℕ → Bool
 isUnicodeEscape w = eqb (getD w 0 0) backslash && (eqb (getD w 1 0) 117 || eqb (getD w 1 0) 85)
 
--- a byte is at most 255, and is a character of the local set
-abbrev pub localByte : ℕ → Maybe
-localByte n = pick (leb n 255) (Character (localCharacter n)) Nothing
+abbrev pub isEscape : List ℕ → Bool
+isEscape w = eqb (getD w 0 0) backslash
 
-unfoldable pub byteOf : List ℕ → Maybe
-byteOf w = pick (isUnicodeEscape w) Nothing (ifCharacter (characterOf w) Nothing localByte)
+-- the byte of a whole word: an escape is that byte in every set, a character written as itself the byte that the set has for it
+unfoldable pub byteOf : ℕ → List ℕ → Maybe
+byteOf charset w =
+    pick (isUnicodeEscape w) Nothing
+    (ifCharacter (characterOf w) Nothing (λ n. pick (isEscape w) (asByte n) (localByte charset n)))
+
+-- a byte operand stands for the character that the set has for its byte
+unfoldable pub byteCharacterOf : ℕ → List ℕ → Maybe
+byteCharacterOf charset w = ifCharacter (byteOf charset w) Nothing (λ byte. Character (localCharacter charset byte))

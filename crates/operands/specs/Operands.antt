@@ -9,7 +9,7 @@ use Rattle.basics.specs.declared.Refusal.the-variants.{MissingOperand, BadChara
 use Rattle.basics.specs.declared.Maybe.{Maybe}
 use Rattle.lines.specs.declared.Word.{Word}
 use Rattle.lines.specs.Words.{wordAt, bytesOf, isMissing}
-use Rattle.operands.specs.Characters.{characterOf, byteOf}
+use Rattle.operands.specs.Characters.{characterOf, byteCharacterOf}
 use Rattle.operands.specs.Dots.{dotsAt, cellAt}
 use Rattle.operands.specs.declared.Operand.{Operand}
 use Rattle.operands.specs.declared.Operand.the-variants as O
@@ -22,11 +22,11 @@ use Rattle.operands.specs.declared.CellRead.the-variants.{Bad, Read}
 abbrev pub wordOperand : Maybe → List ℕ → Word → Operand
 wordOperand value line w = ifCharacter value (O.Fault BadCharacter (length line - w .start)) (λ c. O.Value c (w .end))
 
--- the next word as a character operand, or, where `byte` holds, as a byte operand
-unfoldable pub characterAt : Bool → List ℕ → ℕ → Operand
-characterAt byte line at =
+-- the next word as a character operand, or, where `byte` holds, as a byte operand in a local character set
+unfoldable pub characterAt : ℕ → Bool → List ℕ → ℕ → Operand
+characterAt charset byte line at =
     let w : Word = wordAt line at in
-    pick (isMissing w) (O.Fault MissingOperand 0) (wordOperand (pick byte (byteOf (bytesOf line w)) (characterOf (bytesOf line w))) line w)
+    pick (isMissing w) (O.Fault MissingOperand 0) (wordOperand (pick byte (byteCharacterOf charset (bytesOf line w)) (characterOf (bytesOf line w))) line w)
 
 abbrev pub dotsFault : CellRead → ℕ → DotsOperand
 dotsFault Bad left = D.Fault BadDots left

@@ -7,8 +7,10 @@ use lines::next_word;
 ghost use mathlib.Core.Path.{_≡_};
 ghost use Prim.Native.Nat.{_+_, _*_, _^_, _%_, _/_, _≤_, _<_};
 ghost use lib.ListN.{length, drop};
-ghost use Rattle.operands.specs.Characters.{noNumber, digitOf, withDigit, digitsFrom, plainOf, shortOf, radixOf, wordNumber, characterOf, localByte, isUnicodeEscape, byteOf};
+ghost use Rattle.operands.specs.Characters.{noNumber, digitOf, withDigit, digitsFrom, plainOf, shortOf, radixOf, wordNumber, characterOf, isUnicodeEscape, isEscape, byteOf, byteCharacterOf};
 ghost use Rattle.basics.specs.Choice.{pick};
+ghost use Rattle.unicode.specs.Characters.{asByte, localByte};
+ghost use Rattle.unicode.specs.Internal.{EightBits};
 ghost use Rattle.operands.specs.Dots.{raiseBy, raise, raiseInside, endsAt, digitsAt, insideAt, cellAt, dotsAt};
 ghost use Rattle.operands.specs.Operands.{characterAt, dotsOperandAt};
 ghost use Rattle.operands.specs.Internal.{Digits, CellWithin, OperandWithin, DotsWithin};
@@ -211,16 +213,6 @@ pub fn character_of(w: &[u8]) -> Maybe
     Maybe::Nothing
 }
 
-// A character as a byte of the local set.
-fn local_byte(c: u32) -> Maybe
-    ensures { λ r. ⌜ r ≡ localByte c ⌝ }
-{
-    if c <= 255 {
-        return Maybe::Character(unicode::local_character(c as u8));
-    }
-    Maybe::Nothing
-}
-
 // Whether a word is an escape by `\u` or `\U`.
 fn is_unicode_escape(w: &[u8]) -> bool
     ensures { λ r. ⌜ r ≡ isUnicodeEscape (now (w .entry)) ⌝ }
@@ -237,33 +229,67 @@ fn is_unicode_escape(w: &[u8]) -> bool
     w[1] == b'U'
 }
 
-// The character of a whole word as a byte.
-pub fn byte_of(w: &[u8]) -> Maybe
-    ensures { λ r. ⌜ r ≡ byteOf (now (w .entry)) ⌝ }
+// Whether a word is an escape.
+fn is_escape(w: &[u8]) -> bool
+    ensures { λ r. ⌜ r ≡ isEscape (now (w .entry)) ⌝ }
+{
+    if w.len() == 0 {
+        return false;
+    }
+    w[0] == b'\\'
+}
+
+// A number as a byte, by an escape or as the character of that number.
+fn number_byte(charset: u32, escape: bool, n: u32) -> Maybe
+    ensures { λ r. ⌜ r ≡ pick escape (asByte n) (localByte charset n) ⌝ }
+    ensures { λ r. ⌜ EightBits r ⌝ }
+{
+    if escape {
+        return unicode::as_byte(n);
+    }
+    unicode::local_byte(charset, n)
+}
+
+// The byte of a whole word in a local character set.
+pub fn byte_of(charset: u32, w: &[u8]) -> Maybe
+    ensures { λ r. ⌜ r ≡ byteOf charset (now (w .entry)) ⌝ }
+    ensures { λ r. ⌜ EightBits r ⌝ }
 {
     if is_unicode_escape(w) {
         return Maybe::Nothing;
     }
     match character_of(w) {
         Maybe::Nothing => Maybe::Nothing,
-        Maybe::Character(c) => local_byte(c),
+        Maybe::Character(n) => number_byte(charset, is_escape(w), n),
     }
 }
 
-// The word at `w` of the operand kind that `byte` says.
-fn word_value(w: &[u8], byte: bool) -> Maybe
-    ensures { λ r. ⌜ r ≡ pick byte (byteOf (now (w .entry))) (characterOf (now (w .entry))) ⌝ }
+// The character that a byte operand stands for.
+fn byte_character_of(charset: u32, w: &[u8]) -> Maybe
+    ensures { λ r. ⌜ r ≡ byteCharacterOf charset (now (w .entry)) ⌝ }
+{
+    match byte_of(charset, w) {
+        Maybe::Nothing => Maybe::Nothing,
+        Maybe::Character(byte) => {
+            Maybe::Character(unicode::local_character(charset, byte as u8))
+        }
+    }
+}
+
+// The character of a whole word of the operand kind that `byte` says.
+fn word_value(charset: u32, w: &[u8], byte: bool) -> Maybe
+    ensures { λ r. ⌜ r ≡ pick byte (byteCharacterOf charset (now (w .entry))) (characterOf (now (w .entry))) ⌝ }
 {
     if byte {
-        return byte_of(w);
+        return byte_character_of(charset, w);
     }
     character_of(w)
 }
 
-// The next word from `at` on as a character operand, or, where `byte` holds, as a byte operand.
-pub fn character_at(line: &[u8], at: usize, byte: bool) -> Operand
+// The next word from `at` on as a character operand, or, where `byte` holds, as a byte operand in a local character set.
+pub fn character_at(charset: u32, line: &[u8], at: usize, byte: bool) -> Operand
     requires { ⌜ at ≤ length (now line) ⌝ }
-    ensures { λ r. ⌜ r ≡ characterAt byte (now (line .entry)) at ⌝ }
+    ensures { λ r. ⌜ r ≡ characterAt charset byte (now (line .entry)) at ⌝ }
     ensures { λ r. ⌜ OperandWithin r (length (now (line .entry))) ⌝ }
 {
     let w = next_word(line, at);
@@ -272,7 +298,7 @@ pub fn character_at(line: &[u8], at: usize, byte: bool) -> Operand
     if start == end {
         return Operand::Fault(Refusal::MissingOperand, 0);
     }
-    match word_value(&line[start..end], byte) {
+    match word_value(charset, &line[start..end], byte) {
         Maybe::Nothing => Operand::Fault(Refusal::BadCharacter, line.len() - start),
         Maybe::Character(c) => Operand::Value(c, end),
     }

@@ -44,17 +44,17 @@ glyph-rule two true Absent a b c d links = later-rule two _ (choose-chosen 5 (a 
 glyph-rule two false Absent a b c d links = later-rule two _ (choose-chosen 5 (a ∷ b ∷ c ∷ d ∷ []) links)
 
 -- so `ifGlyph` holds exactly where the end of the alias walk has a cell; none of it is asked in the braille row
-module _ (ds : List Definition) (c : ℕ) (braille : Bool) (e : braille ≡ isBraille c) where
-  pub glyph-never : braille ≡ true → false ≡ hasGlyph ds c
+module _ (charset : ℕ) (ds : List Definition) (c : ℕ) (braille : Bool) (e : braille ≡ isBraille c) where
+  pub glyph-never : braille ≡ true → false ≡ hasGlyph charset ds c
   unfolding hasGlyph lookup
   glyph-never q = rw (← e, q)
 
-  module _ (q : braille ≡ false) (l : ℕ) (local : l ≡ localOf c) (w : Walked) (from : w ≡ walkWithCell (table ds) l) where
-    glyph-walk : hasGlyph ds c ≡ ifDots (w .cell) false (λ dots. true)
+  module _ (q : braille ≡ false) (l : ℕ) (local : l ≡ localOf charset c) (w : Walked) (from : w ≡ walkWithCell (table ds) l) where
+    glyph-walk : hasGlyph charset ds c ≡ ifDots (w .cell) false (λ dots. true)
     unfolding hasGlyph lookup
     glyph-walk = rw (← e, q, ← local, by-walk (table ds) l w from) (glyph-rule (isPrivate c) (eqb (w .links) 0) (w .cell) _ _ _ _ (w .links))
 
-    pub glyph-end : (v : Bool) {end : Cell} → w .cell ≡ end → v ≡ ifDots end false (λ dots. true) → v ≡ hasGlyph ds c
+    pub glyph-end : (v : Bool) {end : Cell} → w .cell ≡ end → v ≡ ifDots end false (λ dots. true) → v ≡ hasGlyph charset ds c
     glyph-end v is h = h ∙ sym (glyph-walk ∙ rw is)
 
 -- a scan that has come to pair i of n; x is what it is to answer

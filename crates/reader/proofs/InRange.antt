@@ -50,9 +50,9 @@ FrontInRange room (Condition holds rest) = Unit
 
 -- what holds of a fault and of each answer in range holds of what follows from an operand
 module _ {A : Type 0} (P : A → Type 0) (bad : Refusal → ℕ → A) (fault : (refusal : Refusal) (left : ℕ) → P (bad refusal left)) where
-  each-value : (byte : Bool) (line : List ℕ) (at : ℕ) (good : ℕ → ℕ → A) → ((c after : ℕ) → isScalar c ≡ true → P (good c after))
-      → P (ifValue (characterAt byte line at) bad good)
-  each-value byte line at good h = go (characterAt byte line at) (value-in-range byte line at)
+  each-value : (charset : ℕ) (byte : Bool) (line : List ℕ) (at : ℕ) (good : ℕ → ℕ → A) → ((c after : ℕ) → isScalar c ≡ true → P (good c after))
+      → P (ifValue (characterAt charset byte line at) bad good)
+  each-value charset byte line at good h = go (characterAt charset byte line at) (value-in-range charset byte line at)
     where
       go : (o : Operand) → OperandInRange o → P (ifValue o bad good)
       go (O.Fault refusal left) r = fault refusal left
@@ -76,12 +76,12 @@ module _ (P : Reading → Type 0) (fault : (refusal : Refusal) (left : ℕ) → 
   unfolding blockLine
   each-block may read at left h = by-test P may (λ e. each-finished at (Block read) h) (λ e. fault _ _)
 
-  each-line : (ds : List Definition) (around : Around) → P NoEffect → P (Block Else) → P (Block EndIf) → P (ifHolds (around .taken) (readFrom ds (around .room) line))
-      → P (readLine ds around line)
+  each-line : (charset : ℕ) (ds : List Definition) (around : Around) → P NoEffect → P (Block Else) → P (Block EndIf) → P (ifHolds (around .taken) (readFrom charset ds (around .room) line))
+      → P (readLine charset ds around line)
   unfolding readLine readFirst
-  each-line ds around skipped turned closed other = go (openingOf line)
+  each-line charset ds around skipped turned closed other = go (openingOf line)
     where
-      go : (o : Opening) → P (ifDirective o Fault NoEffect (readFirst ds around line))
+      go : (o : Opening) → P (ifDirective o Fault NoEffect (readFirst charset ds around line))
       go (Op.Fault refusal left) = fault refusal left
       go Op.Skip = skipped
       go Op.Directive =
@@ -94,19 +94,19 @@ dots-meaning : (typed : Bool) (cell : ℕ) → cell < 256 → isNumberInRange (p
 dots-meaning true cell l = le-leb cell 255 (omega arith)
 dots-meaning false cell l = le-leb cell 255 (omega arith)
 
-module _ (room : ℕ) where
-  dots-line : (byte typed : Bool) (line : List ℕ) (at left : ℕ) → ReadingInRange room (dotsLine byte typed line at left)
+module _ (charset room : ℕ) where
+  dots-line : (byte typed : Bool) (line : List ℕ) (at left : ℕ) → ReadingInRange room (dotsLine charset byte typed line at left)
   unfolding dotsLine
   dots-line byte typed line at left =
-      each-value (ReadingInRange room) Fault (λ refusal left. tt) byte line at _
+      each-value (ReadingInRange room) Fault (λ refusal left. tt) charset byte line at _
       (λ c after h. each-dots (ReadingInRange room) Fault (λ refusal left. tt) true line after _
       (λ cell end l. each-finished (ReadingInRange room) (λ refusal left. tt) line end _ (record { character = h; number = dots-meaning typed cell l })))
 
-  alias-line : (line : List ℕ) (at left : ℕ) → ReadingInRange room (aliasLine line at left)
+  alias-line : (line : List ℕ) (at left : ℕ) → ReadingInRange room (aliasLine charset line at left)
   unfolding aliasLine
   alias-line line at left =
-      each-value (ReadingInRange room) Fault (λ refusal left. tt) false line at _
-      (λ c after h. each-value (ReadingInRange room) Fault (λ refusal left. tt) false line after _
+      each-value (ReadingInRange room) Fault (λ refusal left. tt) charset false line at _
+      (λ c after h. each-value (ReadingInRange room) Fault (λ refusal left. tt) charset false line after _
       (λ target end g. each-finished (ReadingInRange room) (λ refusal left. tt) line end _ (record { character = h; number = g })))
 
   -- a condition gives no definition, and is read only where there is room
@@ -115,15 +115,15 @@ module _ (room : ℕ) where
     unfolding conditionAt
     condition-front after holds = by-test (FrontInRange room) (isOver line after) (λ e. some) (λ e. tt)
 
-    glyph-front : (ds : List Definition) (wanted : Bool) (at : ℕ) → FrontInRange room (glyphCondition ds wanted line at)
+    glyph-front : (ds : List Definition) (wanted : Bool) (at : ℕ) → FrontInRange room (glyphCondition charset ds wanted line at)
     unfolding glyphCondition
-    glyph-front ds wanted at = each-value (FrontInRange room) faulty (λ refusal left. tt) false line at _ (λ c after h. condition-front after _)
+    glyph-front ds wanted at = each-value (FrontInRange room) faulty (λ refusal left. tt) charset false line at _ (λ c after h. condition-front after _)
 
     cell-front : (ds : List Definition) (wanted : Bool) (at : ℕ) → FrontInRange room (cellCondition ds wanted line at)
     unfolding cellCondition
     cell-front ds wanted at = each-dots (FrontInRange room) faulty (λ refusal left. tt) false line at _ (λ cell after l. condition-front after _)
 
-  front-in-range : (ds : List Definition) (line : List ℕ) → FrontInRange room (frontOf ds room line)
+  front-in-range : (ds : List Definition) (line : List ℕ) → FrontInRange room (frontOf charset ds room line)
   unfolding frontOf
   front-in-range ds line =
       let w = wordAt line 0 in
@@ -132,13 +132,14 @@ module _ (room : ℕ) where
       some : eqb room 0 ≡ false → 0 < room
       some e = let n = eqb-false room 0 e in omega arith
 
-      go : (directive : Directive) (at left : ℕ) → FrontInRange room (afterDirective ds room line directive at left)
+      go : (directive : Directive) (at left : ℕ) → FrontInRange room (afterDirective charset ds room line directive at left)
       go D.Unknown at left = tt
       go (D.ByDots byte typed) at left = dots-line byte typed line at left
       go D.ByAlias at left = alias-line line at left
       go (D.IfGlyph wanted) at left = by-test (FrontInRange room) (eqb room 0) (λ e. tt) (λ e. glyph-front (some e) line ds wanted at)
       go (D.IfCell wanted) at left = by-test (FrontInRange room) (eqb room 0) (λ e. tt) (λ e. cell-front (some e) line ds wanted at)
 
+module _ (room : ℕ) where
   holds-in-range : (holds : Bool) (reading : Reading) → ReadingInRange room reading → ReadingInRange room (ifHolds holds reading)
   unfolding ifHolds
   holds-in-range holds reading h = by-test (ReadingInRange room) holds (λ e. h) (λ e. without reading h)
@@ -165,14 +166,14 @@ module _ (room : ℕ) where
   more-room (Block Else) h = tt
   more-room (Block EndIf) h = tt
 
-from-in-range : (ds : List Definition) (room : ℕ) (line : List ℕ) → ReadingInRange room (readFrom ds room line)
+from-in-range : (charset : ℕ) (ds : List Definition) (room : ℕ) (line : List ℕ) → ReadingInRange room (readFrom charset ds room line)
 unfolding readFrom
-from-in-range ds zero line = on-front zero (frontOf ds zero line) (λ holds rest. NoEffect) (front-in-range zero ds line) (λ holds rest. tt)
-from-in-range ds (suc room) line =
-    on-front (suc room) (frontOf ds (suc room) line) _ (front-in-range (suc room) ds line)
+from-in-range charset ds zero line = on-front zero (frontOf charset ds zero line) (λ holds rest. NoEffect) (front-in-range charset zero ds line) (λ holds rest. tt)
+from-in-range charset ds (suc room) line =
+    on-front (suc room) (frontOf charset ds (suc room) line) _ (front-in-range charset (suc room) ds line)
     (λ holds rest.
-    let r : Reading = readFrom ds room (drop rest line) in
-    holds-in-range (suc room) holds r (more-room room r (from-in-range ds room (drop rest line))))
+    let r : Reading = readFrom charset ds room (drop rest line) in
+    holds-in-range (suc room) holds r (more-room room r (from-in-range charset ds room (drop rest line))))
 
 -- a line not taken opens a block without a half that is
 abbrev NoHalf : Reading → Type 0
@@ -191,21 +192,21 @@ without-half (Block (Open first second)) = (refl, refl)
 without-half (Block Else) = tt
 without-half (Block EndIf) = tt
 
-module _ (ds : List Definition) (around : Around) (line : List ℕ) where
-  read-in-range : ReadingInRange (around .room) (readLine ds around line)
+module _ (charset : ℕ) (ds : List Definition) (around : Around) (line : List ℕ) where
+  read-in-range : ReadingInRange (around .room) (readLine charset ds around line)
   read-in-range =
-      each-line (ReadingInRange (around .room)) (λ refusal left. tt) line ds around tt tt tt
-      (holds-in-range (around .room) (around .taken) (readFrom ds (around .room) line) (from-in-range ds (around .room) line))
+      each-line (ReadingInRange (around .room)) (λ refusal left. tt) line charset ds around tt tt tt
+      (holds-in-range (around .room) (around .taken) (readFrom charset ds (around .room) line) (from-in-range charset ds (around .room) line))
 
   -- the definition that a line gives is in range
-  pub line-in-range : {d : Definition} {left : ℕ} → readLine ds around line ≡ Define d left → InRange d
+  pub line-in-range : {d : Definition} {left : ℕ} → readLine charset ds around line ≡ Define d left → InRange d
   line-in-range e = rw e at read-in-range
 
   -- a block that a line opens had room
-  pub line-had-room : {read : BlockLine} → readLine ds around line ≡ Block read → RoomFor (around .room) read
+  pub line-had-room : {read : BlockLine} → readLine charset ds around line ≡ Block read → RoomFor (around .room) read
   line-had-room e = rw e at read-in-range
 
   -- and, where the line is not taken, no half that is
-  pub line-no-half : {first second : Bool} → around .taken ≡ false → readLine ds around line ≡ Block (Open first second) → (first ≡ false) × (second ≡ false)
+  pub line-no-half : {first second : Bool} → around .taken ≡ false → readLine charset ds around line ≡ Block (Open first second) → (first ≡ false) × (second ≡ false)
   unfolding ifHolds
-  line-no-half untaken e = rw e at (each-line NoHalf (λ refusal left. tt) line ds around tt tt tt (rw untaken (without-half (readFrom ds (around .room) line))))
+  line-no-half untaken e = rw e at (each-line NoHalf (λ refusal left. tt) line charset ds around tt tt tt (rw untaken (without-half (readFrom charset ds (around .room) line))))

@@ -62,26 +62,26 @@ module _ (f : Front) (holds : Bool) (rest room n : ℕ) (h : FrontWithin f room 
 
 -- ---- directives
 
-pub at-directive : (ds : List Definition) (room : ℕ) (line : List ℕ) (at left : ℕ) {d k : Directive} {f : Front} → d ≡ k → f ≡ afterDirective ds room line k at left → f ≡ afterDirective ds room line d at left
-at-directive ds room line at left q h = rw q h
+pub at-directive : (charset : ℕ) (ds : List Definition) (room : ℕ) (line : List ℕ) (at left : ℕ) {d k : Directive} {f : Front} → d ≡ k → f ≡ afterDirective charset ds room line k at left → f ≡ afterDirective charset ds room line d at left
+at-directive charset ds room line at left q h = rw q h
 
-pub front-read : (ds : List Definition) (room : ℕ) (line : List ℕ) (w : Word) (d : Directive) (f : Front) → w ≡ wordAt line 0 → d ≡ directiveOf (bytesOf line w) → f ≡ afterDirective ds room line d (w .end) (length line - w .start) → f ≡ frontOf ds room line
+pub front-read : (charset : ℕ) (ds : List Definition) (room : ℕ) (line : List ℕ) (w : Word) (d : Directive) (f : Front) → w ≡ wordAt line 0 → d ≡ directiveOf (bytesOf line w) → f ≡ afterDirective charset ds room line d (w .end) (length line - w .start) → f ≡ frontOf charset ds room line
 unfolding frontOf
-front-read ds room line w d f g h z = rw (← g, ← h) z
+front-read charset ds room line w d f g h z = rw (← g, ← h) z
 
-pub read-whole : (ds : List Definition) (room : ℕ) (line : List ℕ) (f : Front) (reading : Reading) → f ≡ frontOf ds room line → f ≡ Whole reading → reading ≡ readFrom ds room line
+pub read-whole : (charset : ℕ) (ds : List Definition) (room : ℕ) (line : List ℕ) (f : Front) (reading : Reading) → f ≡ frontOf charset ds room line → f ≡ Whole reading → reading ≡ readFrom charset ds room line
 unfolding readFrom
-read-whole ds zero line f reading e q = rw (← e, q)
-read-whole ds (suc room) line f reading e q = rw (← e, q)
+read-whole charset ds zero line f reading e q = rw (← e, q)
+read-whole charset ds (suc room) line f reading e q = rw (← e, q)
 
 -- the rest of a line as `&line[rest..]` has it
 part-rest : (line : List ℕ) (rest : ℕ) → take (length line - rest) (drop rest line) ≡ drop rest line
 part-rest line rest = take-all (length line - rest) (drop rest line) (simp length-drop (omega arith))
 
-pub read-further : (ds : List Definition) (room : ℕ) (line : List ℕ) (f : Front) (holds : Bool) (rest : ℕ) (more r : Reading) → f ≡ frontOf ds room line → f ≡ Condition holds rest → 0 < room → more ≡ readFrom ds (room - 1) (take (length line - rest) (drop rest line)) → r ≡ ifHolds holds more → r ≡ readFrom ds room line
+pub read-further : (charset : ℕ) (ds : List Definition) (room : ℕ) (line : List ℕ) (f : Front) (holds : Bool) (rest : ℕ) (more r : Reading) → f ≡ frontOf charset ds room line → f ≡ Condition holds rest → 0 < room → more ≡ readFrom charset ds (room - 1) (take (length line - rest) (drop rest line)) → r ≡ ifHolds holds more → r ≡ readFrom charset ds room line
 unfolding readFrom
-read-further ds zero line f holds rest more r e q p g z = absurd (omega arith)
-read-further ds (suc room) line f holds rest more r e q p g z = z ∙ rw (← e, q, g, part-rest, sub-one)
+read-further charset ds zero line f holds rest more r e q p g z = absurd (omega arith)
+read-further charset ds (suc room) line f holds rest more r e q p g z = z ∙ rw (← e, q, g, part-rest, sub-one)
 
 -- ---- the first word
 
@@ -90,16 +90,20 @@ pub inert-block : {reading : Reading} {read made : BlockLine} → reading ≡ Bl
 inert-block q e = rw (q, e)
 
 -- w is the first word, a and b are what calls answered of it
-module _ (ds : List Definition) (around : Around) (line : List ℕ) (w : Word) (r : Reading) (a : Bool) (e : w ≡ wordAt line 0) (p : a ≡ sameBytes (bytesOf line w) (ascii "else")) where
-  pub first-else : a ≡ true → r ≡ blockLine (around .turns) Else line (w .end) (length line - w .start) → r ≡ readFirst ds around line
+module _ (charset : ℕ) (ds : List Definition) (around : Around) (line : List ℕ) (w : Word) (r : Reading) (a : Bool) (e : w ≡ wordAt line 0) (p : a ≡ sameBytes (bytesOf line w) (ascii "else")) where
+  pub first-else : a ≡ true → r ≡ blockLine (around .turns) Else line (w .end) (length line - w .start) → r ≡ readFirst charset ds around line
   unfolding readFirst
   first-else q z = rw (← e, ← p, q) z
 
   module _ (b : Bool) (n : a ≡ false) (t : b ≡ sameBytes (bytesOf line w) (ascii "endIf")) where
-    pub first-end : b ≡ true → r ≡ blockLine (around .closes) EndIf line (w .end) (length line - w .start) → r ≡ readFirst ds around line
+    pub first-end : b ≡ true → r ≡ blockLine (around .closes) EndIf line (w .end) (length line - w .start) → r ≡ readFirst charset ds around line
     unfolding readFirst
     first-end q z = rw (← e, ← p, n, ← t, q) z
 
-    pub first-other : (more : Reading) → b ≡ false → more ≡ readFrom ds (around .room) line → r ≡ ifHolds (around .taken) more → r ≡ readFirst ds around line
+    pub first-other : (more : Reading) → b ≡ false → more ≡ readFrom charset ds (around .room) line → r ≡ ifHolds (around .taken) more → r ≡ readFirst charset ds around line
     unfolding readFirst
     first-other more q y z = rw (← e, ← p, n, ← t, q, ← y) z
+
+-- s is what a call answered of the set
+pub in-set : (charset : ℕ) (ds : List Definition) (around : Around) (line : List ℕ) {s : ℕ} {r : Reading} → s ≡ charset → r ≡ readFirst s ds around line → r ≡ readFirst charset ds around line
+in-set charset ds around line e h = rw (← e) h

@@ -9,9 +9,9 @@ use Rattle.definitions.specs.Definitions.{table, typedIn}
 use Rattle.lookup.specs.Rules.{lookup}
 
 -- `ifGlyph`: the lookup answers by rule 3 or 4, rule 2 passed or not
-unfoldable pub hasGlyph : List Definition → ℕ → Bool
-hasGlyph ds c =
-    let rule : ℕ = lookup (table ds) c .rule % 16 in
+unfoldable pub hasGlyph : ℕ → List Definition → ℕ → Bool
+hasGlyph charset ds c =
+    let rule : ℕ = lookup charset (table ds) c .rule % 16 in
     eqb rule 3 || eqb rule 4
 
 -- `ifCell`: some `char` so far has that cell

@@ -1,4 +1,5 @@
--- Reading a line: 3, 4, then faults 5 to 10 and 17 as met from left to right. The conditions are judged with the definitions of the lines before.
+-- Reading a line: 3, 4, then faults 5 to 10 and 17 as met from left to right. The conditions are judged with the definitions of the lines before;
+-- byte operands and rule 2 go by the local character set.
 use Prim.Native.Nat.{ℕ, zero, suc, _-_}
 use mathlib.Core.Bool.{Bool, true, false, not, Bool·beq}
 use mathlib.Core.List.{List}
@@ -52,17 +53,17 @@ abbrev pub define : ℕ → Meaning → ℕ → Reading
 define c meaning left = Define (record { character = c; meaning = meaning }) left
 
 -- `char`, `glyph` and `byte`: a character or byte operand, then dots
-unfoldable pub dotsLine : Bool → Bool → List ℕ → ℕ → ℕ → Reading
-dotsLine byte typed line at left =
-    ifValue (characterAt byte line at) Fault (λ c after.
+unfoldable pub dotsLine : ℕ → Bool → Bool → List ℕ → ℕ → ℕ → Reading
+dotsLine charset byte typed line at left =
+    ifValue (characterAt charset byte line at) Fault (λ c after.
     ifDotsValue (dotsOperandAt true line after) Fault (λ dots end.
     finished line end (define c (pick typed (M.Typed dots) (M.Shown dots)) left)))
 
 -- `alias`: the character, then the one it stands for
-unfoldable pub aliasLine : List ℕ → ℕ → ℕ → Reading
-aliasLine line at left =
-    ifValue (characterAt false line at) Fault (λ c after.
-    ifValue (characterAt false line after) Fault (λ target end.
+unfoldable pub aliasLine : ℕ → List ℕ → ℕ → ℕ → Reading
+aliasLine charset line at left =
+    ifValue (characterAt charset false line at) Fault (λ c after.
+    ifValue (characterAt charset false line after) Fault (λ target end.
     finished line end (define c (M.Alias target) left)))
 
 -- a fault found before a further directive could be read
@@ -75,9 +76,9 @@ unfoldable pub conditionAt : List ℕ → ℕ → Bool → Front
 conditionAt line after holds = pick (isOver line after) (Whole (Block (Open holds (not holds)))) (Condition holds after)
 
 -- a condition's operand: the condition holds where its test comes out as wanted
-unfoldable pub glyphCondition : List Definition → Bool → List ℕ → ℕ → Front
-glyphCondition ds wanted line at =
-    ifValue (characterAt false line at) faulty (λ c after. conditionAt line after (Bool·beq (hasGlyph ds c) wanted))
+unfoldable pub glyphCondition : ℕ → List Definition → Bool → List ℕ → ℕ → Front
+glyphCondition charset ds wanted line at =
+    ifValue (characterAt charset false line at) faulty (λ c after. conditionAt line after (Bool·beq (hasGlyph charset ds c) wanted))
 
 unfoldable pub cellCondition : List Definition → Bool → List ℕ → ℕ → Front
 cellCondition ds wanted line at =
@@ -88,18 +89,18 @@ abbrev pub ifRoom : ℕ → ℕ → Front → Front
 ifRoom room left condition = pick (eqb room 0) (faulty TooManyConditions left) condition
 
 -- what stands behind a directive word; the word itself begins `left` bytes before the line's end
-abbrev pub afterDirective : List Definition → ℕ → List ℕ → Directive → ℕ → ℕ → Front
-afterDirective ds room line D.Unknown at left = faulty UnknownDirective left
-afterDirective ds room line (D.ByDots byte typed) at left = Whole (dotsLine byte typed line at left)
-afterDirective ds room line D.ByAlias at left = Whole (aliasLine line at left)
-afterDirective ds room line (D.IfGlyph wanted) at left = ifRoom room left (glyphCondition ds wanted line at)
-afterDirective ds room line (D.IfCell wanted) at left = ifRoom room left (cellCondition ds wanted line at)
+abbrev pub afterDirective : ℕ → List Definition → ℕ → List ℕ → Directive → ℕ → ℕ → Front
+afterDirective charset ds room line D.Unknown at left = faulty UnknownDirective left
+afterDirective charset ds room line (D.ByDots byte typed) at left = Whole (dotsLine charset byte typed line at left)
+afterDirective charset ds room line D.ByAlias at left = Whole (aliasLine charset line at left)
+afterDirective charset ds room line (D.IfGlyph wanted) at left = ifRoom room left (glyphCondition charset ds wanted line at)
+afterDirective charset ds room line (D.IfCell wanted) at left = ifRoom room left (cellCondition ds wanted line at)
 
 -- the directive at the front, with room for so many conditions
-unfoldable pub frontOf : List Definition → ℕ → List ℕ → Front
-frontOf ds room line =
+unfoldable pub frontOf : ℕ → List Definition → ℕ → List ℕ → Front
+frontOf charset ds room line =
     let w : Word = wordAt line 0 in
-    afterDirective ds room line (directiveOf (bytesOf line w)) (w .end) (length line - w .start)
+    afterDirective charset ds room line (directiveOf (bytesOf line w)) (w .end) (length line - w .start)
 
 -- behind a failed condition, or inside lines not taken: the whole line must be well formed, nothing is defined, and of a block that opens neither
 -- half is taken
@@ -118,23 +119,23 @@ onFront (Condition holds rest) more = more holds rest
 
 -- a directive with room for so many conditions: what follows a condition is read with room for one less.
 -- Without room no front is a condition
-unfoldable pub readFrom : List Definition → ℕ → List ℕ → Reading
-readFrom ds zero line = onFront (frontOf ds zero line) (λ holds rest. NoEffect)
-readFrom ds (suc room) line =
-    onFront (frontOf ds (suc room) line) (λ holds rest. ifHolds holds (readFrom ds room (drop rest line)))
+unfoldable pub readFrom : ℕ → List Definition → ℕ → List ℕ → Reading
+readFrom charset ds zero line = onFront (frontOf charset ds zero line) (λ holds rest. NoEffect)
+readFrom charset ds (suc room) line =
+    onFront (frontOf charset ds (suc room) line) (λ holds rest. ifHolds holds (readFrom charset ds room (drop rest line)))
 
 -- `else` or `endIf`, at fault at its word where it may not stand
 unfoldable pub blockLine : Bool → BlockLine → List ℕ → ℕ → ℕ → Reading
 blockLine may read line at left = pick may (finished line at (Block read)) (Fault StrayBlockWord left)
 
 -- `else` and `endIf` stand first on their line; any other directive has its effect where the line is taken
-unfoldable pub readFirst : List Definition → Around → List ℕ → Reading
-readFirst ds around line =
+unfoldable pub readFirst : ℕ → List Definition → Around → List ℕ → Reading
+readFirst charset ds around line =
     let w : Word = wordAt line 0 in
     pick (sameBytes (bytesOf line w) (ascii "else")) (blockLine (around .turns) Else line (w .end) (length line - w .start))
     (pick (sameBytes (bytesOf line w) (ascii "endIf")) (blockLine (around .closes) EndIf line (w .end) (length line - w .start))
-    (ifHolds (around .taken) (readFrom ds (around .room) line)))
+    (ifHolds (around .taken) (readFrom charset ds (around .room) line)))
 
 -- a whole line, without its end
-unfoldable pub readLine : List Definition → Around → List ℕ → Reading
-readLine ds around line = ifDirective (openingOf line) Fault NoEffect (readFirst ds around line)
+unfoldable pub readLine : ℕ → List Definition → Around → List ℕ → Reading
+readLine charset ds around line = ifDirective (openingOf line) Fault NoEffect (readFirst charset ds around line)

@@ -1,4 +1,5 @@
-// Reading a line of a text table: directives, conditions, operands. Words and a count stand for the definitions of the lines before.
+// Reading a line of a text table: directives, conditions, operands. Words and a count stand for the definitions of the lines before,
+// and the words say the local character set.
 use basics::Refusal;
 use blocks::Around;
 use blocks::BlockLine;
@@ -15,7 +16,7 @@ ghost use Prim.Native.Nat.{_+_, _-_, _*_, _≤_, _<_};
 ghost use lib.ListN.{length};
 ghost use Rattle.basics.specs.Choice.{pick};
 ghost use Rattle.lines.specs.Internal.{NextWord};
-ghost use Rattle.table.specs.Words.{definitions};
+ghost use Rattle.table.specs.Words.{charsetOf, definitions};
 ghost use Rattle.reader.specs.Conditions.{hasGlyph, hasCell};
 ghost use Rattle.reader.specs.Reader.{conditionOf, directiveOf, finished, dotsLine, aliasLine, conditionAt, glyphCondition, cellCondition, afterDirective, frontOf, ifHolds, readFrom, blockLine, readFirst, readLine};
 ghost use Rattle.reader.specs.Internal.{FrontWithin};
@@ -47,14 +48,14 @@ pub enum Front {
 }
 
 // Whether `ifGlyph` holds: the end of the alias walk has a cell exactly where rule 3 or 4 answers.
-fn has_glyph(words: &[u32], count: usize, c: u32) -> bool
+fn has_glyph(charset: u32, words: &[u32], count: usize, c: u32) -> bool
     requires { ⌜ 2 * count ≤ length (now words) ⌝ }
-    ensures { λ r. ⌜ r ≡ hasGlyph (definitions count (now (words .entry))) c ⌝ }
+    ensures { λ r. ⌜ r ≡ hasGlyph charset (definitions count (now (words .entry))) c ⌝ }
 {
     if unicode::is_braille(c) {
         return false;
     }
-    let w = table::walk_from(words, count, unicode::local_of(c));
+    let w = table::walk_from(words, count, unicode::local_of(charset, c));
     let end = w.cell;
     match end {
         Cell::Absent => false,
@@ -146,11 +147,11 @@ fn dots_meaning(typed: bool, dots: u8) -> Meaning
 }
 
 // `char`, `glyph` and `byte` from behind the directive word on.
-fn dots_line(line: &[u8], at: usize, byte: bool, typed: bool, left: usize) -> Reading
+fn dots_line(charset: u32, line: &[u8], at: usize, byte: bool, typed: bool, left: usize) -> Reading
     requires { ⌜ at ≤ length (now line) ⌝ }
-    ensures { λ r. ⌜ r ≡ dotsLine byte typed (now (line .entry)) at left ⌝ }
+    ensures { λ r. ⌜ r ≡ dotsLine charset byte typed (now (line .entry)) at left ⌝ }
 {
-    match operands::character_at(line, at, byte) {
+    match operands::character_at(charset, line, at, byte) {
         Operand::Fault(refusal, place) => Reading::Fault(refusal, place),
         Operand::Value(c, after) => match operands::dots_operand_at(line, after, true) {
             DotsOperand::Fault(refusal, place) => Reading::Fault(refusal, place),
@@ -167,13 +168,13 @@ fn dots_line(line: &[u8], at: usize, byte: bool, typed: bool, left: usize) -> Re
 }
 
 // `alias` from behind the directive word on.
-fn alias_line(line: &[u8], at: usize, left: usize) -> Reading
+fn alias_line(charset: u32, line: &[u8], at: usize, left: usize) -> Reading
     requires { ⌜ at ≤ length (now line) ⌝ }
-    ensures { λ r. ⌜ r ≡ aliasLine (now (line .entry)) at left ⌝ }
+    ensures { λ r. ⌜ r ≡ aliasLine charset (now (line .entry)) at left ⌝ }
 {
-    match operands::character_at(line, at, false) {
+    match operands::character_at(charset, line, at, false) {
         Operand::Fault(refusal, place) => Reading::Fault(refusal, place),
-        Operand::Value(c, after) => match operands::character_at(line, after, false) {
+        Operand::Value(c, after) => match operands::character_at(charset, line, after, false) {
             Operand::Fault(refusal, place) => Reading::Fault(refusal, place),
             Operand::Value(target, end) => {
                 let d = Definition {
@@ -202,15 +203,22 @@ fn condition_at(line: &[u8], after: usize, holds: bool) -> Front
 }
 
 // `ifGlyph` and `ifNotGlyph` from behind the directive word on.
-fn glyph_condition(words: &[u32], count: usize, line: &[u8], at: usize, wanted: bool) -> Front
+fn glyph_condition(
+    charset: u32,
+    words: &[u32],
+    count: usize,
+    line: &[u8],
+    at: usize,
+    wanted: bool,
+) -> Front
     requires { ⌜ (2 * count ≤ length (now words)) × (at ≤ length (now line)) ⌝ }
-    ensures { λ r. ⌜ r ≡ glyphCondition (definitions count (now (words .entry))) wanted (now (line .entry)) at ⌝ }
+    ensures { λ r. ⌜ r ≡ glyphCondition charset (definitions count (now (words .entry))) wanted (now (line .entry)) at ⌝ }
     ensures { λ r. ⌜ FrontWithin r 1 (length (now (line .entry))) ⌝ }
 {
-    match operands::character_at(line, at, false) {
+    match operands::character_at(charset, line, at, false) {
         Operand::Fault(refusal, place) => Front::Whole(Reading::Fault(refusal, place)),
         Operand::Value(c, after) => {
-            let holds = has_glyph(words, count, c) == wanted;
+            let holds = has_glyph(charset, words, count, c) == wanted;
             condition_at(line, after, holds)
         }
     }
@@ -233,6 +241,7 @@ fn cell_condition(words: &[u32], count: usize, line: &[u8], at: usize, wanted: b
 
 // What stands behind a directive word, with room for so many conditions; the word begins `left` bytes before the line's end.
 fn after_directive(
+    charset: u32,
     words: &[u32],
     count: usize,
     line: &[u8],
@@ -242,18 +251,20 @@ fn after_directive(
     left: usize,
 ) -> Front
     requires { ⌜ (2 * count ≤ length (now words)) × (at ≤ length (now line)) ⌝ }
-    ensures { λ r. ⌜ r ≡ afterDirective (definitions count (now (words .entry))) room (now (line .entry)) directive at left ⌝ }
+    ensures { λ r. ⌜ r ≡ afterDirective charset (definitions count (now (words .entry))) room (now (line .entry)) directive at left ⌝ }
     ensures { λ r. ⌜ FrontWithin r room (length (now (line .entry))) ⌝ }
 {
     match directive {
         Directive::Unknown => Front::Whole(Reading::Fault(Refusal::UnknownDirective, left)),
-        Directive::ByDots { byte, typed } => Front::Whole(dots_line(line, at, byte, typed, left)),
-        Directive::ByAlias => Front::Whole(alias_line(line, at, left)),
+        Directive::ByDots { byte, typed } => {
+            Front::Whole(dots_line(charset, line, at, byte, typed, left))
+        }
+        Directive::ByAlias => Front::Whole(alias_line(charset, line, at, left)),
         Directive::IfGlyph { wanted } => {
             if room == 0 {
                 return Front::Whole(Reading::Fault(Refusal::TooManyConditions, left));
             }
-            glyph_condition(words, count, line, at, wanted)
+            glyph_condition(charset, words, count, line, at, wanted)
         }
         Directive::IfCell { wanted } => {
             if room == 0 {
@@ -265,15 +276,16 @@ fn after_directive(
 }
 
 // The directive at the front of what is left of a line, whose first word is `w`.
-fn front_of(words: &[u32], count: usize, line: &[u8], w: Word, room: usize) -> Front
+fn front_of(charset: u32, words: &[u32], count: usize, line: &[u8], w: Word, room: usize) -> Front
     requires { ⌜ (2 * count ≤ length (now words)) × NextWord (now line) 0 w ⌝ }
-    ensures { λ r. ⌜ r ≡ frontOf (definitions count (now (words .entry))) room (now (line .entry)) ⌝ }
+    ensures { λ r. ⌜ r ≡ frontOf charset (definitions count (now (words .entry))) room (now (line .entry)) ⌝ }
     ensures { λ r. ⌜ FrontWithin r room (length (now (line .entry))) ⌝ }
 {
     let start = w.start;
     let end = w.end;
     let directive = directive_of(&line[start..end]);
-    after_directive(words, count, line, room, directive, end, line.len() - start)
+    let left = line.len() - start;
+    after_directive(charset, words, count, line, room, directive, end, left)
 }
 
 // Behind a failed condition, or inside lines not taken, only a fault counts, and a block that opens.
@@ -292,17 +304,24 @@ fn if_holds(holds: bool, reading: Reading) -> Reading
 }
 
 // A directive, with room for so many conditions, whose word is `w`: it calls itself on the rest of the line.
-fn read_from(words: &[u32], count: usize, line: &[u8], w: Word, room: usize) -> Reading
+fn read_from(
+    charset: u32,
+    words: &[u32],
+    count: usize,
+    line: &[u8],
+    w: Word,
+    room: usize,
+) -> Reading
     requires { ⌜ (2 * count ≤ length (now words)) × NextWord (now line) 0 w ⌝ }
-    ensures { λ r. ⌜ r ≡ readFrom (definitions count (now (words .entry))) room (now (line .entry)) ⌝ }
+    ensures { λ r. ⌜ r ≡ readFrom charset (definitions count (now (words .entry))) room (now (line .entry)) ⌝ }
 {
-    match front_of(words, count, line, w, room) {
+    match front_of(charset, words, count, line, w, room) {
         Front::Whole(reading) => reading,
         Front::Condition { holds, rest } => {
             let next = lines::next_word(&line[rest..], 0);
             if_holds(
                 holds,
-                read_from(words, count, &line[rest..], next, room - 1),
+                read_from(charset, words, count, &line[rest..], next, room - 1),
             )
         }
     }
@@ -320,9 +339,9 @@ fn block_line(line: &[u8], at: usize, left: usize, may: bool, read: BlockLine) -
 }
 
 // A line that is no comment.
-fn read_first(words: &[u32], count: usize, around: Around, line: &[u8]) -> Reading
+fn read_first(charset: u32, words: &[u32], count: usize, around: Around, line: &[u8]) -> Reading
     requires { ⌜ 2 * count ≤ length (now words) ⌝ }
-    ensures { λ r. ⌜ r ≡ readFirst (definitions count (now (words .entry))) around (now (line .entry)) ⌝ }
+    ensures { λ r. ⌜ r ≡ readFirst charset (definitions count (now (words .entry))) around (now (line .entry)) ⌝ }
 {
     let w = lines::next_word(line, 0);
     let start = w.start;
@@ -339,17 +358,23 @@ fn read_first(words: &[u32], count: usize, around: Around, line: &[u8]) -> Readi
             BlockLine::EndIf,
         );
     }
-    if_holds(around.taken, read_from(words, count, line, w, around.room))
+    if_holds(
+        around.taken,
+        read_from(charset, words, count, line, w, around.room),
+    )
 }
 
 // A whole line, without its end.
 pub fn read_line(words: &[u32], count: usize, around: Around, line: &[u8]) -> Reading
     requires { ⌜ 2 * count ≤ length (now words) ⌝ }
-    ensures { λ r. ⌜ r ≡ readLine (definitions count (now (words .entry))) around (now (line .entry)) ⌝ }
+    ensures { λ r. ⌜ r ≡ readLine (charsetOf (now (words .entry))) (definitions count (now (words .entry))) around (now (line .entry)) ⌝ }
 {
     match lines::open_line(line) {
         Opening::Fault(refusal, left) => Reading::Fault(refusal, left),
         Opening::Skip => Reading::NoEffect,
-        Opening::Directive => read_first(words, count, around, line),
+        Opening::Directive => {
+            let charset = table::charset_of(words);
+            read_first(charset, words, count, around, line)
+        }
     }
 }

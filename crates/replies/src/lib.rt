@@ -5,6 +5,7 @@ use basics::Maybe;
 use basics::Refusal;
 use lines::Compiled;
 use lookup::Looked;
+use table::PAIR_WORDS;
 use table::TABLE_WORDS;
 
 // What the program writes of an answer of a compile call, without its LF.
@@ -152,14 +153,22 @@ fn push_change(text: Text, words: &[u32]) -> Text {
     answers::push_bytes(text, b" other")
 }
 
-// What compiling answers, as a text, and what it leaves in words that all held 7: those of a table, and those beyond.
+// The two words behind the pairs of a table.
+fn push_end(text: Text, charset: u32, last: u32) -> Text {
+    let set = answers::push_decimal(answers::push_bytes(text, b" set "), charset as u64);
+    answers::push_decimal(answers::push_byte(set, b' '), last as u64)
+}
+
+// What compiling answers, as a text, and what it leaves in words that all held 7: the pairs of a table, the two words
+// behind them, and those beyond.
 pub fn left_text(answer: Text, words: &[u32]) -> Text {
     let front = answers::push_bytes(answer, b" words");
     if words.len() < TABLE_WORDS {
         return answers::push_bytes(push_change(front, words), b" beyond same");
     }
-    let middle = answers::push_bytes(push_change(front, &words[0..TABLE_WORDS]), b" beyond");
-    push_change(middle, &words[TABLE_WORDS..])
+    let pairs = push_change(front, &words[0..PAIR_WORDS]);
+    let end = push_end(pairs, words[PAIR_WORDS], words[PAIR_WORDS + 1]);
+    push_change(answers::push_bytes(end, b" beyond"), &words[TABLE_WORDS..])
 }
 
 // Whether cells are all 255.

@@ -4,7 +4,8 @@ use mathlib.Core.Path.{_≡_, refl, sym, ap, _∙_}
 use mathlib.Core.Bool.{Bool, true, false, not, _&&_}
 use mathlib.Core.List.{List, [], _∷_, _++_}
 use native.Mathlib.Omega.{arith}
-use lib.ListN.{length, getD, drop, drop-of-length-le}
+use lib.ListN.{length, getD, take, drop, drop-of-length-le}
+use lib.Seq.{length-take-le}
 use lib.Bits.{bitOr}
 use borrow.Author.Tests.{eq-eqb}
 use Rattle.basics.specs.Choice.{pick}
@@ -17,8 +18,8 @@ use Rattle.definitions.specs.Definitions.{find}
 use Rattle.definitions.specs.Effects.{definitionLimit, isDefined, closesLoop}
 use Rattle.table.specs.declared.Checked.{Checked}
 use Rattle.table.specs.declared.Checked.the-variants.{Sound, FaultAt}
-use Rattle.table.specs.Words.{tableWords, meaningOf, definitionOf, definitions}
-use Rattle.table.specs.Check.{isZeroPair, isSoundPair, zeroFrom, checkFrom}
+use Rattle.table.specs.Words.{pairWords, tableWords, charsetOf, meaningOf, definitionOf, definitions}
+use Rattle.table.specs.Check.{isZeroPair, isSoundPair, zeroFrom, checkFrom, isSoundEnd, checkOf}
 use Rattle.table.proofs.Pairs.{two-more, definitions-length, definitions-more, rest, scan-here, scan-none}
 
 module _ (ws : List ℕ) (k : ℕ) where
@@ -31,10 +32,10 @@ module _ (ws : List ℕ) (k : ℕ) where
   abbrev behind : List ℕ
   behind = drop (2 * (k + 1)) ws
 
-  pair : length ws ≡ tableWords → k < definitionLimit → drop (2 * k) ws ≡ character ∷ word ∷ behind
+  pair : length ws ≡ pairWords → k < definitionLimit → drop (2 * k) ws ≡ character ∷ word ∷ behind
   pair len h = let a : 2 * (k + 1) ≡ 2 * k + 2 = omega arith in rw a (two-more ws (2 * k) (omega arith))
 
-  over : length ws ≡ tableWords → definitionLimit ≤ k → drop (2 * k) ws ≡ []
+  over : length ws ≡ pairWords → definitionLimit ≤ k → drop (2 * k) ws ≡ []
   over len h = drop-of-length-le ws {i = 2 * k} (omega arith)
 
 -- words that have no bit between them are zero pairs
@@ -54,7 +55,7 @@ pub no-bits : (r n k : ℕ) (ws : List ℕ) → r ≡ bitsOf ws → r ≡ 0 → 
 no-bits r n k ws e q = no-bits-with ws 0 n k (told e q)
 
 -- behind a zero pair the check has come from the pair `from` to the pair k
-module _ (n from : ℕ) (ws : List ℕ) (k : ℕ) (inv : zeroFrom n k (drop (2 * k) ws) ≡ zeroFrom n from (drop (2 * from) ws)) (len : length ws ≡ tableWords) where
+module _ (n from : ℕ) (ws : List ℕ) (k : ℕ) (inv : zeroFrom n k (drop (2 * k) ws) ≡ zeroFrom n from (drop (2 * from) ws)) (len : length ws ≡ pairWords) where
   pub zero-next : {v : Checked} → k < definitionLimit → v ≡ pick (isZeroPair (character ws k) (word ws k)) (zeroFrom n (k + 1) (behind ws k)) (FaultAt k)
       → v ≡ zeroFrom n from (drop (2 * from) ws)
   unfolding zeroFrom
@@ -85,7 +86,7 @@ unfolding definitions
 check-start ws = refl
 
 -- the check has come to the pair k, behind k definitions
-module _ (ws : List ℕ) (k : ℕ) (inv : checkFrom (definitions k ws) (drop (2 * k) ws) ≡ checkFrom [] ws) (len : length ws ≡ tableWords) where
+module _ (ws : List ℕ) (k : ℕ) (inv : checkFrom (definitions k ws) (drop (2 * k) ws) ≡ checkFrom [] ws) (len : length ws ≡ pairWords) where
   pub check-next : {v : Checked} → k < definitionLimit
       → v ≡ pick (isZeroPair (character ws k) (word ws k)) (zeroFrom k (k + 1) (behind ws k))
       (pick (isSoundPair (character ws k) (word ws k)) (ifFresh (definitions k ws) (definitionOf (character ws k) (word ws k)) k (checkFrom (definitions (k + 1) ws) (behind ws k)))
@@ -111,3 +112,23 @@ module _ (next : Checked) (ws : List ℕ) (k c w : ℕ) (inv : ifFresh (definiti
   pub check-none : {m : Meaning} {v : Checked} → k ≤ j → m ≡ meaningOf w → v ≡ pick (closesLoop (definitions k ws) (record { character = c; meaning = m })) (FaultAt k) next → v ≡ checkFrom [] ws
   unfolding ifFresh
   check-none none says e = (rw says at e) ∙ rw (← scan-none _ k j ws c scan none) at inv
+
+-- ---- the whole table
+
+pub pairs-part : (ws : List ℕ) → tableWords ≤ length ws → length (take pairWords ws) ≡ pairWords
+pairs-part ws h = length-take-le pairWords ws (omega arith)
+
+-- p is what the check of the pairs answered, and s what a call answered of the two words behind them
+module _ (ws : List ℕ) (p : Checked) (pairs : p ≡ checkFrom [] (take pairWords ws)) where
+  pub check-fault : (pair : ℕ) → p ≡ FaultAt pair → FaultAt pair ≡ checkOf ws
+  unfolding checkOf
+  check-fault pair q = rw (← pairs, q)
+
+  module _ (n : ℕ) (s : Bool) (q : p ≡ Sound n) (end : s ≡ isSoundEnd (charsetOf ws) (getD ws (pairWords + 1) 0)) where
+    pub check-sound : s ≡ true → Sound n ≡ checkOf ws
+    unfolding checkOf
+    check-sound t = rw (← pairs, q, ← end, t)
+
+    pub check-end : s ≡ false → FaultAt definitionLimit ≡ checkOf ws
+    unfolding checkOf
+    check-end t = rw (← pairs, q, ← end, t)

@@ -3,7 +3,7 @@ use Prim.Native.Nat.{ℕ, zero, suc, _+_, _*_, _-_, _≤_, _<_}
 use mathlib.Core.Path.{_≡_, refl, sym, ap, _∙_}
 use mathlib.Core.List.{List, [], _∷_, _++_}
 use native.Mathlib.Omega.{arith}
-use lib.ListN.{length, getD, take, drop, take-append-drop}
+use lib.ListN.{length, getD, take, drop, take-append-drop, List·getD-eq-default}
 use lib.Seq.{drop-cons, length-take-le}
 use borrow.Author.Tests.{eq-eqb, ne-eqb}
 use Rattle.definitions.specs.declared.Meaning.{Meaning}
@@ -11,7 +11,7 @@ use Rattle.definitions.specs.declared.Definition.{Definition}
 use Rattle.definitions.specs.declared.Found.{Found}
 use Rattle.definitions.specs.declared.Found.the-variants.{Undefined, Is}
 use Rattle.definitions.specs.Definitions.{find}
-use Rattle.table.specs.Words.{meaningOf, definitionOf, definitions}
+use Rattle.table.specs.Words.{pairWords, charsetOf, meaningOf, definitionOf, definitions}
 
 pub two-more : (ws : List ℕ) (j : ℕ) → j + 1 < length ws → drop j ws ≡ getD ws j 0 ∷ getD ws (j + 1) 0 ∷ drop (j + 2) ws
 two-more ws j h =
@@ -76,3 +76,7 @@ module _ (x : Found) (n i : ℕ) (ws : List ℕ) (c : ℕ) (inv : x ≡ find (re
   pub scan-none : n ≤ i → Undefined ≡ x
   unfolding find
   scan-none h = sym (inv ∙ rw (rest-none n i ws h))
+
+-- so few words say no set
+pub few-words : (ws : List ℕ) → length ws ≤ pairWords → 0 ≡ charsetOf ws
+few-words ws h = sym (List·getD-eq-default ws 0 {n = pairWords} h)

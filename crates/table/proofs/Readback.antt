@@ -6,23 +6,24 @@ use mathlib.Core.Bool.{Bool, true, false, not, _&&_, _||_}
 use mathlib.Core.List.{List, [], _∷_, _++_, append-assoc, append-nil}
 use native.Mathlib.Omega.{arith}
 use lib.Dec.{eqb, leb, ltb}
-use lib.ListN.{length, take, drop, replicate, length-append, length-replicate, length-take, take-append-drop}
-use lib.Seq.{append-snoc, take-at, length-take-le}
+use lib.ListN.{length, getD, take, drop, replicate, length-append, length-replicate, take-append-drop}
+use lib.Seq.{append-snoc, take-at, drop-at, drop-drop, getD-drop, length-take-le}
 use borrow.Author.Tests.{eqb-true, leb-true, le-leb, lt-leb, ltb-true, ltb-false, le-ltb, not-true}
 use Rattle.basics.specs.Choice.{pick}
 use Rattle.basics.proofs.Tests.{both, by-test}
 use Rattle.basics.specs.Refusals.{Reply, answered}
-use Rattle.unicode.specs.Characters.{isScalar}
+use Rattle.unicode.specs.Characters.{isScalar, isCharset}
 use Rattle.definitions.specs.declared.Meaning.{Meaning}
 use Rattle.definitions.specs.declared.Meaning.the-variants.{Typed, Shown, Alias}
 use Rattle.definitions.specs.declared.Definition.{Definition}
 use Rattle.definitions.specs.declared.Verdict.the-variants.{Admitted}
 use Rattle.definitions.specs.Effects.{definitionLimit, isDefined, closesLoop, verdictOf}
 use Rattle.definitions.proofs.Admission.{admissible, Admits, admits-limit}
-use Rattle.table.specs.Words.{tableWords, kindUnit, wordOf, wordsOf, imageOf, isSoundWord, meaningOf, definitionOf, definitions}
-use Rattle.table.specs.Check.{isZeroPair, isSoundPair, isFresh, zeroFrom, checkFrom, checkOf, checkedTable, lentTable}
+use Rattle.table.specs.Words.{pairWords, tableWords, kindUnit, wordOf, wordsOf, pairsOf, imageOf, charsetOf, isSoundWord, meaningOf, definitionOf, definitions}
+use Rattle.table.specs.Check.{isZeroPair, isSoundPair, isFresh, zeroFrom, checkFrom, isSoundEnd, andEnd, checkOf, checkedTable, lentTable}
 use Rattle.table.specs.declared.Checked.{Checked}
 use Rattle.table.specs.declared.Checked.the-variants.{Sound, FaultAt}
+use Rattle.table.proofs.Pairs.{two-more}
 
 -- ---- numbers in range
 
@@ -101,9 +102,20 @@ unfolding wordsOf
 words-length [] = refl
 words-length (d ∷ ds) = omega (arith, words-length ds)
 
-pub image-length : (ds : List Definition) → length ds ≤ definitionLimit → length (imageOf ds) ≡ tableWords
-image-length ds h =
-    omega (arith, length-append (wordsOf ds) (replicate (tableWords - 2 * length ds) 0), words-length ds, length-replicate {A = ℕ} (tableWords - 2 * length ds) 0)
+pairs-length : (ds : List Definition) → length ds ≤ definitionLimit → length (pairsOf ds) ≡ pairWords
+pairs-length ds h =
+    omega (arith, length-append (wordsOf ds) (replicate (pairWords - 2 * length ds) 0), words-length ds, length-replicate {A = ℕ} (pairWords - 2 * length ds) 0)
+
+-- what stands behind the pairs says the set, and what lies beyond the table
+module _ (ws u : List ℕ) (charset : ℕ) (behind : drop pairWords ws ≡ charset ∷ 0 ∷ u) where
+  pub behind-charset : charsetOf ws ≡ charset
+  behind-charset = sym (getD-drop pairWords ws 0 0) ∙ ap (λ (l : List ℕ). getD l 0 0) behind
+
+  pub behind-last : getD ws (pairWords + 1) 0 ≡ 0
+  behind-last = sym (getD-drop pairWords ws 1 0) ∙ ap (λ (l : List ℕ). getD l 1 0) behind
+
+  pub behind-beyond : drop tableWords ws ≡ u
+  behind-beyond = sym (drop-drop 2 pairWords ws) ∙ ap (drop 2) behind
 
 -- as many definitions as there are come back, whatever words follow
 definitions-back : (ds : List Definition) (ws : List ℕ) → AllInRange ds → definitions (length ds) (wordsOf ds ++ ws) ≡ ds
@@ -133,20 +145,37 @@ words-sound (d ∷ rs) ds m h f =
     (rw (says .1, a .fresh, a .opens)
     (rw append-snoc at (words-sound rs (ds ++ d ∷ []) m (h .1) (f .1))))
 
-module _ (ds : List Definition) (h : Admits [] ds) (f : AllInRange ds) (u : List ℕ) where
-  -- an image passes the check, whatever words follow
-  pub image-sound : checkOf (imageOf ds ++ u) ≡ Sound (length ds)
-  unfolding checkOf
-  image-sound = rw (take-at (imageOf ds) u tableWords (image-length ds (admits-limit ds h))) (words-sound ds [] (tableWords - 2 * length ds) h f)
+module _ (ds : List Definition) (h : Admits [] ds) (f : AllInRange ds) (charset : ℕ) (u : List ℕ) where
+  abbrev image : List ℕ
+  image = imageOf charset ds ++ u
 
-  -- its pairs are its definitions
-  pub image-back : definitions (length ds) (imageOf ds ++ u) ≡ ds
-  image-back = rw append-assoc (definitions-back ds (replicate (tableWords - 2 * length ds) 0 ++ u) f)
+  parts : image ≡ pairsOf ds ++ charset ∷ 0 ∷ u
+  parts = append-assoc (pairsOf ds) (charset ∷ 0 ∷ []) u
 
-  -- so it is the table of its definitions
-  pub image-lent : lentTable (imageOf ds ++ u) ≡ answered ds
-  unfolding lentTable
-  image-lent = rw (le-ltb (length (imageOf ds ++ u)) tableWords (omega (arith, length-append (imageOf ds) u, image-length ds (admits-limit ds h))), image-sound, image-back)
+  behind : drop pairWords image ≡ charset ∷ 0 ∷ u
+  behind = rw parts (drop-at (pairsOf ds) (charset ∷ 0 ∷ u) pairWords (pairs-length ds (admits-limit ds h)))
+
+  pub image-charset : charsetOf image ≡ charset
+  image-charset = behind-charset image u charset behind
+
+  -- its pairs are its definitions, whatever words follow
+  pub image-back : definitions (length ds) image ≡ ds
+  image-back = rw (parts, append-assoc) (definitions-back ds (replicate (pairWords - 2 * length ds) 0 ++ charset ∷ 0 ∷ u) f)
+
+  -- an image passes the check
+  module _ (known : isCharset charset ≡ true) where
+    image-sound : checkOf image ≡ Sound (length ds)
+    unfolding checkOf
+    image-sound =
+        let pairs : take pairWords image ≡ pairsOf ds = rw parts (take-at (pairsOf ds) (charset ∷ 0 ∷ u) pairWords (pairs-length ds (admits-limit ds h))) in
+        rw (image-charset, behind-last image u charset behind, known, pairs, words-sound ds [] (pairWords - 2 * length ds) h f)
+
+    -- so it is the table of its definitions
+    pub image-lent : lentTable image ≡ answered ds
+    unfolding lentTable
+    image-lent =
+        let long : tableWords ≤ length image = omega (arith, ap length parts, length-append (pairsOf ds) (charset ∷ 0 ∷ u), pairs-length ds (admits-limit ds h)) in
+        rw (le-ltb (length image) tableWords long, image-sound, image-back)
 
 -- ---- words that pass the check
 
@@ -226,29 +255,41 @@ pub record Lent (ws : List ℕ) (n : ℕ) : Type 0 where
   pub count : length (definitions n ws) ≡ n
   pub limit : n ≤ definitionLimit
   pub fits : 2 * n ≤ length ws
-  pub image : ws ≡ imageOf (definitions n ws) ++ drop tableWords ws
+  pub charset : isCharset (charsetOf ws) ≡ true
+  pub image : ws ≡ imageOf (charsetOf ws) (definitions n ws) ++ drop tableWords ws
 
-lent-read : (ws : List ℕ) (n : ℕ) → length (take tableWords ws) ≡ tableWords → PairsRead [] (take tableWords ws) n → Lent ws n
-lent-read ws n size r =
-    let words : take tableWords ws ≡ imageOf (r .rest) = rw size at (r .words) in
-    let image : ws ≡ imageOf (r .rest) ++ drop tableWords ws = sym (take-append-drop tableWords ws) ∙ ap (λ (v : List ℕ). v ++ drop tableWords ws) words in
+lent-read : (ws : List ℕ) (n : ℕ) → tableWords ≤ length ws → PairsRead [] (take pairWords ws) n → isSoundEnd (charsetOf ws) (getD ws (pairWords + 1) 0) ≡ true → Lent ws n
+lent-read ws n long r sound =
+    let end = both (isCharset (charsetOf ws)) (eqb (getD ws (pairWords + 1) 0) 0) sound in
+    let pairs : take pairWords ws ≡ pairsOf (r .rest) = rw (length-take-le pairWords ws (omega arith)) at (r .words) in
+    let behind : drop pairWords ws ≡ charsetOf ws ∷ 0 ∷ drop tableWords ws = rw (eqb-true (getD ws (pairWords + 1) 0) 0 (end .1)) at (two-more ws pairWords (omega arith)) in
+    let image : ws ≡ imageOf (charsetOf ws) (r .rest) ++ drop tableWords ws =
+    sym (take-append-drop pairWords ws) ∙ rw (pairs, behind) (sym (append-assoc (pairsOf (r .rest)) (charsetOf ws ∷ 0 ∷ []) (drop tableWords ws))) in
     let count : n ≡ length (r .rest) = omega (arith, r .count) in
-    let back : definitions n ws ≡ r .rest = rw count (rw (← image) at (image-back (r .rest) (r .admits) (r .in-range) (drop tableWords ws))) in
+    let back : definitions n ws ≡ r .rest = rw count (rw (← image) at (image-back (r .rest) (r .admits) (r .in-range) (charsetOf ws) (drop tableWords ws))) in
     let limit = admits-limit (r .rest) (r .admits) in
     record {
       admits = rw back (r .admits);
       in-range = rw back (r .in-range);
       count = ap length back ∙ sym count;
       limit = omega arith;
-      fits = omega (arith, length-take tableWords ws);
+      fits = omega arith;
+      charset = end .0;
       image = rw back image;
     }
 
 pub lent : (ws : List ℕ) (n : ℕ) → tableWords ≤ length ws → checkOf ws ≡ Sound n → Lent ws n
 unfolding checkOf
-lent ws n long e =
-    let size = length-take-le tableWords ws long in
-    lent-read ws n size (check-reads [] (take tableWords ws) definitionLimit size (omega arith) e)
+lent ws n long e = go (checkFrom [] (take pairWords ws)) refl e
+  where
+    size : length (take pairWords ws) ≡ pairWords
+    size = length-take-le pairWords ws (omega arith)
+
+    go : (pairs : Checked) → checkFrom [] (take pairWords ws) ≡ pairs → andEnd (isSoundEnd (charsetOf ws) (getD ws (pairWords + 1) 0)) pairs ≡ Sound n → Lent ws n
+    go (Sound m) p q =
+        let parts = no-fault (isSoundEnd (charsetOf ws) (getD ws (pairWords + 1) 0)) (Sound m) definitionLimit q in
+        lent-read ws n long (check-reads [] (take pairWords ws) definitionLimit size (omega arith) (p ∙ parts .1)) (parts .0)
+    go (FaultAt pair) p q = absurd (let z : _≡_ {A = ℕ} 0 1 = cc in omega arith)
 
 -- what holds of the pairs of a slice that passes the check holds of the table that it is
 lent-table : (P : List Definition → Type 0) (ws : List ℕ) (ds : List Definition) → ((n : ℕ) → Lent ws n → P (definitions n ws)) → lentTable ws ≡ answered ds → P ds

@@ -1,15 +1,16 @@
--- A lent slice is a compiled table exactly if pairs from the front are sound definitions and the rest up to 2,048 words are zero.
+-- A lent slice is a compiled table exactly if pairs from the front are sound definitions, the rest up to 2,048 words are zero, and
+-- behind them stand a local character set and a zero.
 use Prim.Native.Nat.{ℕ, _+_}
 use mathlib.Core.Bool.{Bool, not, _&&_}
 use mathlib.Core.List.{List, [], _∷_, _++_}
-use lib.ListN.{length, take}
+use lib.ListN.{length, getD, take}
 use lib.Dec.{eqb, ltb}
 use Rattle.basics.specs.Choice.{pick}
 use Rattle.basics.specs.Refusals.{Reply, answered, refused}
-use Rattle.unicode.specs.Characters.{isScalar}
+use Rattle.unicode.specs.Characters.{isScalar, isCharset}
 use Rattle.definitions.specs.declared.Definition.{Definition}
-use Rattle.definitions.specs.Effects.{isDefined, closesLoop}
-use Rattle.table.specs.Words.{tableWords, isSoundWord, definitionOf, definitions}
+use Rattle.definitions.specs.Effects.{definitionLimit, isDefined, closesLoop}
+use Rattle.table.specs.Words.{pairWords, tableWords, isSoundWord, definitionOf, definitions, charsetOf}
 use Rattle.table.specs.declared.Checked.{Checked}
 use Rattle.table.specs.declared.Checked.the-variants.{Sound, FaultAt}
 
@@ -43,15 +44,23 @@ checkFrom ds (c ∷ w ∷ ws) =
     (pick (isSoundPair c w && isFresh ds (definitionOf c w)) rest
     (FaultAt (length ds)))
 
--- the first 2,048 words
+-- the two words behind the pairs: a set that there is, then zero
+abbrev pub isSoundEnd : ℕ → ℕ → Bool
+isSoundEnd charset last = isCharset charset && eqb last 0
+
+-- they are at fault as a pair behind all others
+abbrev pub andEnd : Bool → Checked → Checked
+andEnd sound (Sound n) = pick sound (Sound n) (FaultAt definitionLimit)
+andEnd sound (FaultAt pair) = FaultAt pair
+
 unfoldable pub checkOf : List ℕ → Checked
-checkOf ws = checkFrom [] (take tableWords ws)
+checkOf ws = andEnd (isSoundEnd (charsetOf ws) (getD ws (pairWords + 1) 0)) (checkFrom [] (take pairWords ws))
 
 abbrev pub checkedTable : List ℕ → Checked → Reply (List Definition)
 checkedTable ws (Sound n) = answered (definitions n ws)
 checkedTable ws (FaultAt pair) = refused 15 pair
 
--- the table that a lent slice is: 2 for a slice under 2,048 words, else 15 at the first pair at fault
+-- the definitions of the table that a lent slice is: 2 for a slice under 2,050 words, else 15 at the first pair at fault
 unfoldable pub lentTable : List ℕ → Reply (List Definition)
 lentTable ws =
     let checked : Reply (List Definition) = checkedTable ws (checkOf ws) in

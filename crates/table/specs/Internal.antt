@@ -5,14 +5,14 @@ use mathlib.Core.List.{List, _++_}
 use lib.ListN.{length, drop}
 use Rattle.definitions.specs.Definitions.{Table, walk, explicit}
 use Rattle.definitions.specs.Effects.{definitionLimit}
-use Rattle.table.specs.Words.{tableWords, imageOf, definitions}
+use Rattle.table.specs.Words.{tableWords, imageOf, charsetOf, definitions}
 use Rattle.table.specs.declared.Walked.{Walked}
 
 abbrev pub walkWithCell : Table → ℕ → Walked
 walkWithCell T c = record { end = walk T c .end; links = walk T c .links; cell = explicit T (walk T c .end) }
 
--- the words of a slice are the table of their first pairs
+-- the words of a slice are the table of their first pairs, for the set that they hold
 pub record Written (ws : List ℕ) (count : ℕ) : Type 0 where
-  pub image : ws ≡ imageOf (definitions count ws) ++ drop tableWords ws
+  pub image : ws ≡ imageOf (charsetOf ws) (definitions count ws) ++ drop tableWords ws
   pub room : count ≤ definitionLimit
   pub long : tableWords ≤ length ws

@@ -1,8 +1,8 @@
--- The words of a compiled table, and the definitions that they say.
+-- The words of a compiled table, the definitions that they say, and the local character set that it is for.
 use Prim.Native.Nat.{ℕ, zero, suc, _+_, _*_, _-_, _/_, _%_}
 use mathlib.Core.Bool.{Bool, false}
 use mathlib.Core.List.{List, [], _∷_, _++_}
-use lib.ListN.{length, replicate}
+use lib.ListN.{length, getD, replicate}
 use lib.Dec.{eqb, leb}
 use Rattle.basics.specs.Choice.{pick}
 use Rattle.unicode.specs.Characters.{isScalar}
@@ -11,9 +11,13 @@ use Rattle.definitions.specs.declared.Meaning.the-variants.{Typed, Shown, Alias
 use Rattle.definitions.specs.declared.Definition.{Definition}
 use Rattle.definitions.specs.Definitions.{Table, table}
 
--- the words of a table: two for each of 1,024 definitions
+-- two words for each of 1,024 definitions
+abbrev pub pairWords : ℕ
+pairWords = 2048
+
+-- the words of a table: behind its pairs the local character set, and a word that is zero
 abbrev pub tableWords : ℕ
-tableWords = 2048
+tableWords = 2050
 
 -- 2^24, which parts the kind of a second word from its number
 abbrev pub kindUnit : ℕ
@@ -30,9 +34,17 @@ unfoldable pub wordsOf : List Definition → List ℕ
 wordsOf [] = []
 wordsOf (d ∷ ds) = d .character ∷ wordOf (d .meaning) ∷ wordsOf ds
 
--- the compiled table of some definitions: the other words of the 2,048 are zero
-abbrev pub imageOf : List Definition → List ℕ
-imageOf ds = wordsOf ds ++ replicate (tableWords - 2 * length ds) 0
+-- the pairs of some definitions: the other words of the 2,048 are zero
+abbrev pub pairsOf : List Definition → List ℕ
+pairsOf ds = wordsOf ds ++ replicate (pairWords - 2 * length ds) 0
+
+-- the compiled table of some definitions, for a local character set
+abbrev pub imageOf : ℕ → List Definition → List ℕ
+imageOf charset ds = pairsOf ds ++ charset ∷ 0 ∷ []
+
+-- the set that words are for
+abbrev pub charsetOf : List ℕ → ℕ
+charsetOf ws = getD ws pairWords 0
 
 -- dots are at most 255, a target is a scalar value, and there is no other kind
 abbrev pub isSoundNumber : ℕ → ℕ → Bool

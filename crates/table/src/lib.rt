@@ -1,4 +1,5 @@
-// A compiled table: 2,048 words of a lent slice, two a definition. A count is that of the pairs that count as definitions.
+// A compiled table: 2,050 words of a lent slice, two a definition, then the local character set and a zero. A count is that
+// of the pairs that count as definitions.
 use basics::Maybe;
 use basics::Refusal;
 use basics::widen;
@@ -9,23 +10,26 @@ use definitions::Found;
 use definitions::Meaning;
 use definitions::Verdict;
 ghost use mathlib.Core.Path.{_≡_};
-ghost use mathlib.Core.List.{[], _++_};
+ghost use mathlib.Core.List.{[], _∷_, _++_};
 ghost use Prim.Native.Nat.{_+_, _*_, _≤_, _<_};
 ghost use lib.ListN.{length, drop, set, replicate};
 ghost use Rattle.basics.specs.Internal.{bitsOf};
 ghost use Rattle.definitions.specs.Definitions.{find, explicit};
 ghost use Rattle.definitions.specs.Effects.{definitionLimit, closesLoop, verdictOf};
-ghost use Rattle.table.specs.Words.{tableWords, kindUnit, wordOf, meaningOf, isSoundWord, definitions, tableOf};
+ghost use Rattle.table.specs.Words.{pairWords, tableWords, kindUnit, wordOf, meaningOf, isSoundWord, charsetOf, definitions, tableOf};
 ghost use Rattle.table.specs.Internal.{walkWithCell};
-ghost use Rattle.table.specs.Check.{isZeroPair, isSoundPair, zeroFrom, checkFrom, checkOf};
+ghost use Rattle.table.specs.Check.{isZeroPair, isSoundPair, zeroFrom, checkFrom, isSoundEnd, checkOf};
 
-// The words of a table: two for each definition.
-pub const TABLE_WORDS: usize = 2048;
+// Two words for each definition.
+pub const PAIR_WORDS: usize = 2048;
+
+// The words of a table: behind its pairs the local character set, and a word that is zero.
+pub const TABLE_WORDS: usize = 2050;
 
 // 2^24, which parts the kind of a second word from its number.
 const KIND_UNIT: u32 = 0x1000000;
 
-// What a lent slice of 2,048 words or more is: a table of so many definitions, or none, by the first pair at fault.
+// What a lent slice of 2,050 words or more is: a table of so many definitions, or none, by the first pair at fault.
 pub enum Checked {
     Sound(usize),
     FaultAt(usize),
@@ -181,7 +185,7 @@ pub fn put(words: &mut [u32], k: usize, d: Definition)
     words[2 * k + 1] = word_of(m);
 }
 
-// Zeroes the 2,048 words.
+// Zeroes the 2,050 words.
 pub fn clear(words: &mut [u32])
     requires { ⌜ tableWords ≤ length (now words) ⌝ }
     ensures { λ r. ⌜ now (words .exit) ≡ replicate tableWords 0 ++ drop tableWords (now (words .entry)) ⌝ }
@@ -191,6 +195,25 @@ pub fn clear(words: &mut [u32])
         words[i] = 0;
         i += 1;
     }
+}
+
+// Makes the words an empty table for a local character set.
+pub fn begin(words: &mut [u32], charset: u32)
+    requires { ⌜ tableWords ≤ length (now words) ⌝ }
+    ensures { λ r. ⌜ now (words .exit) ≡ replicate pairWords 0 ++ charset ∷ 0 ∷ drop tableWords (now (words .entry)) ⌝ }
+{
+    clear(words);
+    words[PAIR_WORDS] = charset;
+}
+
+// The local character set that words are for, 0 where they are too few to say it.
+pub fn charset_of(words: &[u32]) -> u32
+    ensures { λ r. ⌜ r ≡ charsetOf (now (words .entry)) ⌝ }
+{
+    if words.len() <= PAIR_WORDS {
+        return 0;
+    }
+    words[PAIR_WORDS]
 }
 
 fn is_zero_pair(c: u32, w: u32) -> bool
@@ -228,7 +251,7 @@ fn bits_from(words: &[u32], from: usize) -> u32
 // Behind a zero pair: the pairs from `from` on are zero, or the first that is not is at fault. Most often all are
 // zero, and their bits tell it soonest.
 fn zero_from(words: &[u32], count: usize, from: usize) -> Checked
-    requires { ⌜ (length (now words) ≡ tableWords) × (from ≤ definitionLimit) ⌝ }
+    requires { ⌜ (length (now words) ≡ pairWords) × (from ≤ definitionLimit) ⌝ }
     ensures { λ r. ⌜ r ≡ zeroFrom count from (drop (2 * from) (now (words .entry))) ⌝ }
 {
     if bits_from(words, 2 * from) == 0 {
@@ -244,9 +267,9 @@ fn zero_from(words: &[u32], count: usize, from: usize) -> Checked
     Checked::Sound(count)
 }
 
-// The check of 2,048 words: each pair against the earlier ones, left at the first repeat.
+// The check of the pairs: each against the earlier ones, left at the first repeat.
 fn check_words(words: &[u32]) -> Checked
-    requires { ⌜ length (now words) ≡ tableWords ⌝ }
+    requires { ⌜ length (now words) ≡ pairWords ⌝ }
     ensures { λ r. ⌜ r ≡ checkFrom [] (now (words .entry)) ⌝ }
 {
     let mut k = 0;
@@ -278,10 +301,28 @@ fn check_words(words: &[u32]) -> Checked
     }
 }
 
+// Whether the two words behind the pairs are sound.
+fn is_sound_end(charset: u32, last: u32) -> bool
+    ensures { λ r. ⌜ r ≡ isSoundEnd charset last ⌝ }
+{
+    if unicode::is_charset(charset) {
+        return last == 0;
+    }
+    false
+}
+
 // Which table a lent slice is, or its first pair at fault.
 pub fn check_table(words: &[u32]) -> Checked
     requires { ⌜ tableWords ≤ length (now words) ⌝ }
     ensures { λ r. ⌜ r ≡ checkOf (now (words .entry)) ⌝ }
 {
-    check_words(&words[..TABLE_WORDS])
+    match check_words(&words[..PAIR_WORDS]) {
+        Checked::FaultAt(pair) => Checked::FaultAt(pair),
+        Checked::Sound(count) => {
+            if is_sound_end(words[PAIR_WORDS], words[PAIR_WORDS + 1]) {
+                return Checked::Sound(count);
+            }
+            Checked::FaultAt(DEFINITION_LIMIT)
+        }
+    }
 }

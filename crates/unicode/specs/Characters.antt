@@ -1,8 +1,8 @@
--- Scalar values, the two rows that rules 1 and 2 are about, base characters, ASCII stand-ins, the local character set.
+-- Scalar values, the two rows that rules 1 and 2 are about, the local character sets, base characters, ASCII stand-ins.
 use Prim.Native.Nat.{ℕ, _%_}
 use mathlib.Core.Bool.{Bool, _&&_, _||_}
 use mathlib.Core.List.{List, [], _∷_}
-use lib.Dec.{ltb, leb}
+use lib.Dec.{ltb, leb, eqb}
 use Rattle.basics.specs.Choice.{pick}
 use Rattle.basics.specs.declared.Maybe.{Maybe}
 use Rattle.basics.specs.declared.Maybe.the-variants.{Nothing, Character}
@@ -22,13 +22,57 @@ isBraille c = between 0x2800 0x28FF c
 abbrev pub isPrivate : ℕ → Bool
 isPrivate c = between 0xF000 0xF0FF c
 
--- the local character set, ISO 8859-1: byte n is character n
-abbrev pub localCharacter : ℕ → ℕ
-localCharacter byte = byte
+-- the local character sets: 1 is ISO 8859-1, 2 is ISO 8859-15
+unfoldable pub isCharset : ℕ → Bool
+isCharset charset = eqb charset 1 || eqb charset 2
+
+-- where a set differs from ISO 8859-1, in which byte n is character n: rows of a byte and its character
+abbrev pub differences : ℕ → List ℕ
+differences charset =
+    pick (eqb charset 2)
+    (0xA4 ∷ 0x20AC
+    ∷ 0xA6 ∷ 0x160
+    ∷ 0xA8 ∷ 0x161
+    ∷ 0xB4 ∷ 0x17D
+    ∷ 0xB8 ∷ 0x17E
+    ∷ 0xBC ∷ 0x152
+    ∷ 0xBD ∷ 0x153
+    ∷ 0xBE ∷ 0x178
+    ∷ [])
+    []
+
+-- a number as a byte: it is at most 255
+abbrev pub asByte : ℕ → Maybe
+asByte n = pick (leb n 255) (Character n) Nothing
+
+-- the character of a byte: that of its row, else the one of its number
+unfoldable pub characterBy : List ℕ → ℕ → ℕ
+characterBy [] byte = byte
+characterBy (b ∷ []) byte = byte
+characterBy (b ∷ c ∷ rows) byte =
+    let rest : ℕ = characterBy rows byte in
+    pick (eqb byte b) c rest
+
+-- the byte of a character: that of its row, else its number, but none where a row gives that byte to another character
+unfoldable pub byteBy : List ℕ → ℕ → Maybe
+byteBy [] character = asByte character
+byteBy (b ∷ []) character = asByte character
+byteBy (b ∷ c ∷ rows) character =
+    let rest : Maybe = byteBy rows character in
+    pick (eqb character c) (Character b)
+    (pick (eqb character b) Nothing
+    rest)
+
+-- the character that a set has for a byte, and the byte, if any, that it has for a character
+abbrev pub localCharacter : ℕ → ℕ → ℕ
+localCharacter charset byte = characterBy (differences charset) byte
+
+abbrev pub localByte : ℕ → ℕ → Maybe
+localByte charset c = byteBy (differences charset) c
 
 -- rule 2: the character whose place a character of the private row gives up
-unfoldable pub localOf : ℕ → ℕ
-localOf c = pick (isPrivate c) (localCharacter (c % 256)) c
+unfoldable pub localOf : ℕ → ℕ → ℕ
+localOf charset c = pick (isPrivate c) (localCharacter charset (c % 256)) c
 
 -- what stands for c by a list of rows: the first character, the last, and what stands for them
 unfoldable pub standsFor : List ℕ → ℕ → Maybe

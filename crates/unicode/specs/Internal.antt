@@ -1,10 +1,12 @@
--- What the code knows beyond the rules: where an answered position lies, and which bytes are passed at once.
-use Prim.Native.Nat.{ℕ, _+_, _≤_}
+-- What the code knows beyond the rules: where an answered position lies, which bytes are passed at once, and that a byte has eight bits.
+use Prim.Native.Nat.{ℕ, _+_, _≤_, _<_}
 use mathlib.Core.Path.{_≡_}
 use mathlib.Core.List.{List, [], _∷_}
 use lib.ListN.{length, drop}
 use lib.Dec.{ltb}
 use Rattle.basics.specs.Choice.{pick}
+use Rattle.basics.specs.declared.Maybe.{Maybe}
+use Rattle.basics.specs.declared.Maybe.the-variants.{Nothing, Character}
 use Rattle.unicode.specs.declared.Utf8State.{Utf8State}
 use Rattle.unicode.specs.declared.Utf8State.the-variants.{Between, Inside, Broken}
 use Rattle.unicode.specs.declared.Validity.{Validity}
@@ -33,3 +35,8 @@ pub record Resumed (line : List ℕ) (at : ℕ) (p : Utf8State) (r : ℕ) : Type
   pub is : r ≡ resumeFrom (drop at line) at p
   pub from : at ≤ r
   pub within : r ≤ length line
+
+-- a byte that is answered has eight bits
+abbrev pub EightBits : Maybe → Type 0
+EightBits Nothing = Unit {0}
+EightBits (Character byte) = byte < 256

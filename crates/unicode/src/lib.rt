@@ -1,12 +1,13 @@
-// Characters: UTF-8, scalar values, base characters, ASCII stand-ins, the local character set.
+// Characters: UTF-8, scalar values, the local character sets, base characters, ASCII stand-ins.
 use basics::Maybe;
+use basics::widen;
 ghost use mathlib.Core.Path.{_≡_};
 ghost use Prim.Native.Nat.{_≤_};
 ghost use lib.ListN.{length};
 ghost use Rattle.basics.specs.Internal.{bitsOf};
 ghost use Rattle.unicode.specs.Utf8.{afterFirst, afterFurther, afterByte, atEnd, utf8};
-ghost use Rattle.unicode.specs.Internal.{BadWithin, Resumed};
-ghost use Rattle.unicode.specs.Characters.{isScalar, isBraille, isPrivate, localCharacter, localOf, standsFor, baseOf, standInOf};
+ghost use Rattle.unicode.specs.Internal.{BadWithin, Resumed, EightBits};
+ghost use Rattle.unicode.specs.Characters.{isScalar, isBraille, isPrivate, isCharset, asByte, localCharacter, localByte, localOf, standsFor, baseOf, standInOf};
 
 // Where the reading of a line as UTF-8 stands: between two characters; in a character that still wants `left` bytes,
 // the next of them from `low` to `high`; or past a bad sequence. The position is where that sequence begins.
@@ -216,19 +217,102 @@ pub fn is_private(c: u32) -> bool
     c <= 0xF0FF
 }
 
-// The character of a byte of the local set.
-pub fn local_character(byte: u8) -> u32
-    ensures { λ r. ⌜ r ≡ localCharacter byte ⌝ }
+// The local character sets by number.
+pub const ISO_8859_1: u32 = 1;
+
+pub const ISO_8859_15: u32 = 2;
+
+// Whether there is a local character set of that number.
+pub fn is_charset(charset: u32) -> bool
+    ensures { λ r. ⌜ r ≡ isCharset charset ⌝ }
 {
-    byte as u32
+    if charset == ISO_8859_1 {
+        return true;
+    }
+    charset == ISO_8859_15
+}
+
+// A number as a byte.
+pub fn as_byte(n: u32) -> Maybe
+    ensures { λ r. ⌜ r ≡ asByte n ⌝ }
+    ensures { λ r. ⌜ EightBits r ⌝ }
+{
+    if n <= 255 {
+        return Maybe::Character(n);
+    }
+    Maybe::Nothing
+}
+
+// The character of a byte of ISO 8859-15.
+fn latin_9_character(byte: u8) -> u32
+    ensures { λ r. ⌜ r ≡ localCharacter 2 byte ⌝ }
+{
+    match byte {
+        0xA4 => 0x20AC,
+        0xA6 => 0x160,
+        0xA8 => 0x161,
+        0xB4 => 0x17D,
+        0xB8 => 0x17E,
+        0xBC => 0x152,
+        0xBD => 0x153,
+        0xBE => 0x178,
+        _ => widen(byte),
+    }
+}
+
+// The byte that ISO 8859-15 has for a character.
+fn latin_9_byte(c: u32) -> Maybe
+    ensures { λ r. ⌜ r ≡ localByte 2 c ⌝ }
+    ensures { λ r. ⌜ EightBits r ⌝ }
+{
+    match c {
+        0x20AC => Maybe::Character(0xA4),
+        0x160 => Maybe::Character(0xA6),
+        0x161 => Maybe::Character(0xA8),
+        0x17D => Maybe::Character(0xB4),
+        0x17E => Maybe::Character(0xB8),
+        0x152 => Maybe::Character(0xBC),
+        0x153 => Maybe::Character(0xBD),
+        0x178 => Maybe::Character(0xBE),
+        0xA4 => Maybe::Nothing,
+        0xA6 => Maybe::Nothing,
+        0xA8 => Maybe::Nothing,
+        0xB4 => Maybe::Nothing,
+        0xB8 => Maybe::Nothing,
+        0xBC => Maybe::Nothing,
+        0xBD => Maybe::Nothing,
+        0xBE => Maybe::Nothing,
+        _ => as_byte(c),
+    }
+}
+
+// The character that a local character set has for a byte.
+pub fn local_character(charset: u32, byte: u8) -> u32
+    ensures { λ r. ⌜ r ≡ localCharacter charset byte ⌝ }
+{
+    if charset == ISO_8859_15 {
+        return latin_9_character(byte);
+    }
+    widen(byte)
+}
+
+// The byte, if any, that a local character set has for a character.
+pub fn local_byte(charset: u32, c: u32) -> Maybe
+    ensures { λ r. ⌜ r ≡ localByte charset c ⌝ }
+    ensures { λ r. ⌜ EightBits r ⌝ }
+{
+    if charset == ISO_8859_15 {
+        return latin_9_byte(c);
+    }
+    as_byte(c)
 }
 
 // The character after rule 2.
-pub fn local_of(c: u32) -> u32
-    ensures { λ r. ⌜ r ≡ localOf c ⌝ }
+pub fn local_of(charset: u32, c: u32) -> u32
+    ensures { λ r. ⌜ r ≡ localOf charset c ⌝ }
 {
     if is_private(c) {
-        return local_character((c % 256) as u8);
+        return local_character(charset, (c % 256) as u8);
     }
     c
 }

@@ -12,9 +12,11 @@ use Rattle.basics.specs.Refusals.{Reply, answered, refused}
 use Rattle.unicode.specs.Characters.{isScalar}
 use Rattle.definitions.specs.declared.Definition.{Definition}
 use Rattle.definitions.specs.Definitions.{table}
+use Rattle.table.specs.Words.{charsetOf}
 use Rattle.table.specs.Check.{lentTable}
 use Rattle.lookup.specs.declared.NoScalar.{NoScalar}
 use Rattle.lookup.specs.declared.NoScalar.the-variants.{Nowhere, At}
+use Rattle.lookup.specs.declared.Answer.{Answer}
 use Rattle.lookup.specs.Rules.{lookup}
 use Rattle.lookup.specs.Calls.{firstNoScalar, over, pagePlan, pageReply, pageCells, pageRules}
 use Rattle.windows.specs.declared.Window.{Window}
@@ -52,12 +54,12 @@ part-scalars (suc s) k (c ∷ cs) i o = part-scalars s k cs (i + 1) (scalar-firs
 -- what is known of an accepted call
 module _ (words page : List ℕ) (ds : List Definition) (sound : lentTable words ≡ answered ds) (scalars : firstNoScalar page 0 ≡ Nowhere) where
   abbrev cellOf : ℕ → ℕ
-  cellOf c = lookup (table ds) c .cell
+  cellOf c = lookup (charsetOf words) (table ds) c .cell
 
   abbrev ruleOf : ℕ → ℕ
-  ruleOf c = lookup (table ds) c .rule
+  ruleOf c = lookup (charsetOf words) (table ds) c .rule
 
-  planned : (part : List ℕ) (cells rules : ℕ) → length part ≤ cells → length part ≤ rules → firstNoScalar part 0 ≡ Nowhere → pagePlan words part cells rules ≡ answered ds
+  planned : (part : List ℕ) (cells rules : ℕ) → length part ≤ cells → length part ≤ rules → firstNoScalar part 0 ≡ Nowhere → pagePlan words part cells rules ≡ answered (lookup (charsetOf words) (table ds))
   unfolding pagePlan
   planned part cells rules h g e = rw (le-ltb cells (length part) h, le-ltb rules (length part) g, sound, e)
 
@@ -94,7 +96,7 @@ module _ (words page : List ℕ) (ds : List Definition) (sound : lentTable words
 -- ---- the plan of an accepted call
 
 module _ (ws : List Window) (words page cells rules : List ℕ) where
-  abbrev plan : Reply (List Definition)
+  abbrev plan : Reply (ℕ → Answer)
   plan = windowsPlan ws words page (length cells) (length rules)
 
   -- by its plan, the call is one page call per window

@@ -14,7 +14,7 @@ use Rattle.basics.proofs.Tests.{by-cases}
 use Rattle.basics.specs.Refusals.{Reply, answered, refused}
 use Rattle.basics.specs.declared.Refusal.{Refusal}
 use Rattle.basics.specs.declared.Refusal.the-variants.{BeyondPage}
-use Rattle.table.specs.Words.{tableOf}
+use Rattle.table.specs.Words.{charsetOf, tableOf}
 use Rattle.table.proofs.Pairs.{two-more}
 use Rattle.lookup.specs.Internal.{lookupBy}
 use Rattle.windows.specs.declared.Window.{Window}
@@ -137,10 +137,10 @@ within-rest n w ws i o =
 
 module _ (words page : List ℕ) (t : Prepared) (fit : t .count + t .count ≤ length words) where
   abbrev cellBy : ℕ → ℕ
-  cellBy c = lookupBy (tableOf (t .count) words) (t .last) c .cell
+  cellBy c = lookupBy (charsetOf words) (tableOf (t .count) words) (t .last) c .cell
 
   abbrev ruleBy : ℕ → ℕ
-  ruleBy c = lookupBy (tableOf (t .count) words) (t .last) c .rule
+  ruleBy c = lookupBy (charsetOf words) (tableOf (t .count) words) (t .last) c .rule
 
   pub from-writing : (i : ℕ) (ws : List Window) (at : ℕ) (cells rules : List ℕ) → allWithin (length page) ws i ≡ answered tt → at + widths ws ≤ length cells → at + widths ws ≤ length rules
       → passOf words page i ws (state (Writing t at) cells rules) ≡ state (Writing t (at + widths ws)) (overAt at (cellsFor t words (partsOf page ws)) cells) (overAt at (rulesFor t words (partsOf page ws)) rules)

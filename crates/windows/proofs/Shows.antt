@@ -13,12 +13,12 @@ use Rattle.basics.specs.Refusals.{Reply, answered, refused, numberOf, fillingRe
 use Rattle.basics.specs.declared.Filling.{Filling}
 use Rattle.basics.specs.declared.Refusal.{Refusal}
 use Rattle.basics.specs.declared.Refusal.the-variants.{ShortSlice, NotTable, NotScalar, BeyondPage}
-use Rattle.definitions.specs.declared.Definition.{Definition}
 use Rattle.table.specs.declared.Checked.{Checked}
 use Rattle.table.specs.declared.Checked.the-variants.{Sound, FaultAt}
 use Rattle.table.specs.Words.{tableWords, definitions}
 use Rattle.table.specs.Check.{checkOf, lentTable}
 use Rattle.table.proofs.Lent.{lent-short, lent-fault, lent-sound, lent-fits}
+use Rattle.lookup.specs.declared.Answer.{Answer}
 use Rattle.lookup.specs.declared.NoScalar.{NoScalar}
 use Rattle.lookup.specs.declared.NoScalar.the-variants.{Nowhere, At}
 use Rattle.lookup.specs.Rules.{candidates, rulesFrom3, lookup}
@@ -44,7 +44,7 @@ secondPass ws words page st = afterPass (passOf words page 0 ws (state (decideOf
 -- what the plan asks for
 abbrev byPlan : List Window → List ℕ → List ℕ → List ℕ → List ℕ → Call
 byPlan ws words page cells rules =
-    let plan : Reply (List Definition) = windowsPlan ws words page (length cells) (length rules) in
+    let plan : Reply (ℕ → Answer) = windowsPlan ws words page (length cells) (length rules) in
     called (pageReply plan) (pageCells plan (partsOf page ws) cells) (pageRules plan (partsOf page ws) rules)
 
 -- ---- what it computes

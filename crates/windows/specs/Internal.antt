@@ -10,7 +10,7 @@ use Rattle.basics.specs.declared.Filling.{Filling}
 use Rattle.basics.specs.declared.Filling.the-variants as F
 use Rattle.table.specs.declared.Checked.{Checked}
 use Rattle.table.specs.declared.Checked.the-variants.{Sound, FaultAt}
-use Rattle.table.specs.Words.{tableWords, tableOf}
+use Rattle.table.specs.Words.{tableWords, charsetOf, tableOf}
 use Rattle.table.specs.Check.{checkOf}
 use Rattle.lookup.specs.declared.NoScalar as No
 use Rattle.lookup.specs.declared.NoScalar.the-variants.{Nowhere, At}
@@ -66,10 +66,10 @@ hasRoom words page cells rules w n at = isWithin page w && (bothHold (at + w .wi
 
 -- what a table shows of characters
 abbrev pub cellsFor : Prepared → List ℕ → List ℕ → List ℕ
-cellsFor t words characters = map (λ (c : ℕ). lookupBy (tableOf (t .count) words) (t .last) c .cell) characters
+cellsFor t words characters = map (λ (c : ℕ). lookupBy (charsetOf words) (tableOf (t .count) words) (t .last) c .cell) characters
 
 abbrev pub rulesFor : Prepared → List ℕ → List ℕ → List ℕ
-rulesFor t words characters = map (λ (c : ℕ). lookupBy (tableOf (t .count) words) (t .last) c .rule) characters
+rulesFor t words characters = map (λ (c : ℕ). lookupBy (charsetOf words) (tableOf (t .count) words) (t .last) c .rule) characters
 
 abbrev pub writtenOf : List ℕ → List ℕ → Window → Prepared → ℕ → List ℕ → List ℕ → State
 writtenOf words page w t at cells rules =

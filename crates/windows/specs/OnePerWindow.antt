@@ -4,7 +4,7 @@ use mathlib.Core.Path.{_≡_}
 use mathlib.Core.List.{List, [], _∷_, _++_}
 use lib.ListN.{length, take, drop}
 use Rattle.basics.specs.Refusals.{Reply, answered, andThen}
-use Rattle.definitions.specs.declared.Definition.{Definition}
+use Rattle.lookup.specs.declared.Answer.{Answer}
 use Rattle.lookup.specs.Calls.{pagePlan, pageReply, pageCells, pageRules}
 use Rattle.windows.specs.declared.Window.{Window}
 use Rattle.windows.specs.Windows.{partOf, PagesWindows}
@@ -21,7 +21,7 @@ called answer cells rules = record { answer = answer; cells = cells; rules = rul
 -- the page call, from what both outputs held
 abbrev pub pageCall : List ℕ → List ℕ → List ℕ → List ℕ → Call
 pageCall words page cells rules =
-    let plan : Reply (List Definition) = pagePlan words page (length cells) (length rules) in
+    let plan : Reply (ℕ → Answer) = pagePlan words page (length cells) (length rules) in
     called (pageReply plan) (pageCells plan page cells) (pageRules plan page rules)
 
 -- one page call, then the others on what follows in both outputs; the first refusal stands

@@ -6,8 +6,11 @@ use lib.ListN.{length, take, drop}
 use lib.Dec.{leb}
 use Rattle.basics.specs.Choice.{pick}
 use Rattle.basics.specs.Refusals.{Reply, answered, refused, andThen}
-use Rattle.definitions.specs.declared.Definition.{Definition}
+use Rattle.definitions.specs.Definitions.{table}
+use Rattle.table.specs.Words.{charsetOf}
 use Rattle.table.specs.Check.{lentTable}
+use Rattle.lookup.specs.declared.Answer.{Answer}
+use Rattle.lookup.specs.Rules.{lookup}
 use Rattle.lookup.specs.Calls.{firstNoScalar, unlessAt, Pages}
 use Rattle.windows.specs.declared.Window.{Window}
 
@@ -40,12 +43,12 @@ allWithin n (w ∷ ws) i =
 abbrev pub bothHold : ℕ → ℕ → ℕ → Bool
 bothHold n cells rules = leb n cells && leb n rules
 
--- the call, for outputs of so many bytes: the definitions that fill them, or a refusal
-unfoldable pub windowsPlan : List Window → List ℕ → List ℕ → ℕ → ℕ → Reply (List Definition)
+-- the call, for outputs of so many bytes: the lookup that fills them, or a refusal
+unfoldable pub windowsPlan : List Window → List ℕ → List ℕ → ℕ → ℕ → Reply (ℕ → Answer)
 windowsPlan ws words page cells rules =
     andThen (lentTable words) (λ ds.
     andThen (allWithin (length page) ws 0) (λ u.
-    pick (bothHold (widths ws) cells rules) (unlessAt (firstNoScalar page 0) ds) (refused 2 0)))
+    pick (bothHold (widths ws) cells rules) (unlessAt (firstNoScalar page 0) (lookup (charsetOf words) (table ds))) (refused 2 0)))
 
 -- what the call is to do: as a page call does by its plan, of the windows' parts one after another
 abbrev pub PagesWindows : {A : Type 0} → (Reply (Unit {0}) → A) → List Window → List ℕ → List ℕ → List ℕ → List ℕ → A → List ℕ → List ℕ → Type 0

@@ -1,5 +1,6 @@
 use Rattle.basics.proofs.Tests.{tests, on-character}
-use Rattle.byte_tables.proofs.Reader.{by-word, eight-bits}
+use Rattle.unicode.proofs.Charsets.{eight-bits}
+use Rattle.byte_tables.proofs.Reader.{by-word}
 use borrow.Author.Needs.{needs}
 use Rattle.byte_tables.proofs.byte_at.Statement.{statement}
 use Rattle.byte_tables.proofs.byte_at.Tie as tie

@@ -2,7 +2,7 @@ use borrow.Author.Needs.{needs}
 use Prim.Native.Nat.{ℕ, _≤_, _-_}
 use mathlib.Core.Path.{_≡_, refl}
 use lib.ListN.{length}
-use Rattle.table.specs.Words.{tableOf}
+use Rattle.table.specs.Words.{charsetOf, tableOf}
 use Rattle.lookup.specs.Internal.{lookupBy}
 use Rattle.lookup.proofs.Buffers.{filledTo, filled-more, filled-all}
 use Rattle.lookup.proofs.Replies.{same-cell, same-rule}
@@ -13,8 +13,8 @@ use Rattle.lookup.proofs.fill.Tie as tie
 abbrev Inv-loop : tie.InvT-loop
 Inv-loop words count last characters cells₀ rules₀ i₀ cells rules i =
     (i ≤ length characters) × (length cells ≡ length cells₀) × (length rules ≡ length rules₀)
-    × (cells ≡ filledTo (λ (x : ℕ). lookupBy (tableOf count words) last x .cell) characters i cells₀)
-    × (rules ≡ filledTo (λ (x : ℕ). lookupBy (tableOf count words) last x .rule) characters i rules₀)
+    × (cells ≡ filledTo (λ (x : ℕ). lookupBy (charsetOf words) (tableOf count words) last x .cell) characters i cells₀)
+    × (rules ≡ filledTo (λ (x : ℕ). lookupBy (charsetOf words) (tableOf count words) last x .rule) characters i rules₀)
 
 abbrev μ-loop : tie.MeasureT-loop
 μ-loop words count last characters cells₀ rules₀ i₀ cells rules i = length characters - i

@@ -1,5 +1,6 @@
 use Rattle.basics.proofs.Tests.{chosen, on-character}
 use Rattle.operands.specs.Characters.{byteOf}
+use Rattle.operands.proofs.Characters.{by-escape}
 use borrow.Author.Needs.{needs}
 use Rattle.operands.proofs.byte_of.Statement.{statement}
 use Rattle.operands.proofs.byte_of.Tie as tie
@@ -10,10 +11,11 @@ byte-of-spec =
     tie.close
     (tie.spec
     (λ c κs. search needs)
-    (λ c. search chosen)
+    (λ c. (search chosen, search needs))
     (λ c κs. search needs)
     (λ c. search needs)
     (λ c. search needs)
     (λ c κs. search needs)
-    (λ c. search (chosen, on-character))
-    (λ c. search (chosen, on-character)))
+    (λ c κs. search needs)
+    (λ c. (search (chosen, on-character), search needs))
+    (λ c. (search (chosen, on-character, by-escape), search needs)))

@@ -14,7 +14,7 @@ use Rattle.reader.proofs.+read_from.Tie.{close}
 
 -- the room for conditions falls at each call
 abbrev μ-read-from : Measures 2 read-from-kinds.ps ℕ
-μ-read-from κs a = a .1 .1 .1 .1 .0
+μ-read-from κs a = a .1 .1 .1 .1 .1 .0
 
 abbrev read-from-at : ℕ → In 2 read-from-kinds.ps
 read-from-at t = and 2 read-from-kinds.ps (is 2 read-from-kinds.ps μ-read-from t) read-from.Pre

@@ -1,5 +1,6 @@
 use Rattle.lines.proofs.Openings.{on-opening}
 use Rattle.reader.specs.Reader.{readLine}
+use Rattle.reader.proofs.Reader.{in-set}
 use borrow.Author.Needs.{needs}
 use Rattle.reader.proofs.read_line.Statement.{statement}
 use Rattle.reader.proofs.read_line.Tie as tie
@@ -14,6 +15,7 @@ read-line-spec =
     (λ c. search needs)
     (λ c. search needs)
     (λ c κs. search needs)
+    (λ c κs. search needs)
     (λ c. search on-opening)
     (λ c. search on-opening)
-    (λ c. search on-opening))
+    (λ c. search (on-opening, in-set)))

@@ -9,7 +9,7 @@ use Rattle.definitions.specs.Definitions.{find}
 use Rattle.definitions.specs.Effects.{definitionLimit}
 use Rattle.basics.proofs.Tests.{chosen}
 use borrow.Author.Tests.{not-true, not-false}
-use Rattle.table.specs.Words.{tableWords, definitionOf, definitions}
+use Rattle.table.specs.Words.{pairWords, definitionOf, definitions}
 use Rattle.table.specs.Check.{checkFrom}
 use Rattle.table.proofs.Pairs.{rest, rest-all, scan-later}
 use Rattle.table.proofs.Check.{ifFresh, check-start, check-next, check-repeat, check-none, check-over}
@@ -27,7 +27,7 @@ abbrev μ-loop : tie.MeasureT-loop
 
 -- The pairs before k are definitions; the check of the others behind them is the check of all.
 abbrev Inv-pairs : tie.InvT-pairs
-Inv-pairs words k₀ k = (k ≤ definitionLimit) × (length words ≡ tableWords) × (checkFrom (definitions k words) (drop (2 * k) words) ≡ checkFrom [] words)
+Inv-pairs words k₀ k = (k ≤ definitionLimit) × (length words ≡ pairWords) × (checkFrom (definitions k words) (drop (2 * k) words) ≡ checkFrom [] words)
 
 abbrev μ-pairs : tie.MeasureT-pairs
 μ-pairs words k₀ k = definitionLimit - k

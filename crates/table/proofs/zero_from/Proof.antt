@@ -1,7 +1,7 @@
 use Rattle.definitions.specs.Effects.{definitionLimit}
 use Rattle.basics.proofs.Tests.{chosen}
 use borrow.Author.Tests.{not-true, not-false}
-use Rattle.table.specs.Words.{tableWords}
+use Rattle.table.specs.Words.{pairWords}
 use borrow.Author.Needs.{needs}
 use Prim.Native.Nat.{_*_, _≤_, _-_}
 use mathlib.Core.Path.{_≡_, refl}
@@ -13,7 +13,7 @@ use Rattle.table.proofs.zero_from.Tie as tie
 
 -- The pairs from `from` to i are zero, so those from i on decide.
 abbrev Inv-loop : tie.InvT-loop
-Inv-loop words count from i₀ i = (i ≤ definitionLimit) × (length words ≡ tableWords) × (zeroFrom count i (drop (2 * i) words) ≡ zeroFrom count from (drop (2 * from) words))
+Inv-loop words count from i₀ i = (i ≤ definitionLimit) × (length words ≡ pairWords) × (zeroFrom count i (drop (2 * i) words) ≡ zeroFrom count from (drop (2 * from) words))
 
 abbrev μ-loop : tie.MeasureT-loop
 μ-loop words count from i₀ i = definitionLimit - i

@@ -1,0 +1,20 @@
+use Rattle.basics.proofs.Tests.{on-character}
+use Rattle.unicode.proofs.Charsets.{eight-bits}
+use Rattle.operands.specs.Characters.{byteCharacterOf}
+use Rattle.operands.proofs.Characters.{its-character}
+use borrow.Author.Needs.{needs}
+use Rattle.operands.proofs.byte_character_of.Statement.{statement}
+use Rattle.operands.proofs.byte_character_of.Tie as tie
+
+pub byte-character-of-spec : {M : Type 1} → statement M
+unfolding byteCharacterOf
+byte-character-of-spec =
+    tie.close
+    (tie.spec
+    (λ c κs. search needs)
+    (λ c. search needs)
+    (λ c. search needs)
+    (λ c. search eight-bits)
+    (λ c κs. search needs)
+    (λ c. search on-character)
+    (λ c. search (on-character, its-character)))

@@ -1,0 +1,7 @@
+use Rattle.basics.proofs.Tests.{tests, on-both}
+use borrow.Author.Needs.{needs}
+use Rattle.table.proofs.is_sound_end.Statement.{statement}
+use Rattle.table.proofs.is_sound_end.Tie as tie
+
+pub is-sound-end-spec : {M : Type 1} → statement M
+is-sound-end-spec = tie.close (tie.spec (λ c κs. search needs) (λ c. search on-both) (λ c. search on-both))

@@ -1,0 +1,137 @@
+-- From a byte to its character and back, in every local character set: each is the other's inverse where it is defined.
+use Prim.Native.Nat.{ℕ, _<_}
+use mathlib.Core.Path.{_≡_, refl, sym, ap, _∙_}
+use mathlib.Core.Bool.{Bool, true, false, not, _&&_}
+use mathlib.Core.List.{List, [], _∷_}
+use native.Mathlib.Omega.{arith}
+use lib.Dec.{eqb, leb}
+use borrow.Author.Tests.{eqb-true, eqb-false, leb-true, le-leb, lt-ltb, eq-eqb, ne-eqb}
+use Rattle.basics.specs.Choice.{isCharacter}
+use Rattle.basics.proofs.Tests.{by-cases, by-test, both}
+use Rattle.basics.specs.declared.Maybe.{Maybe}
+use Rattle.basics.specs.declared.Maybe.the-variants.{Nothing, Character}
+use Rattle.unicode.specs.Characters.{isScalar, differences, asByte, characterBy, byteBy, localCharacter, localByte}
+use Rattle.unicode.specs.Internal.{EightBits}
+
+-- ---- rows of a byte and its character, as the differences of a set are
+
+-- a byte that no row behind it has, and a scalar value that is neither in a row behind it nor a byte's own number
+abbrev isRow : ℕ → ℕ → List ℕ → Bool
+isRow b c rows = leb b 255 && (isScalar c && (eqb (characterBy rows b) b && not (isCharacter (byteBy rows c))))
+
+unfoldable areRows : List ℕ → Bool
+areRows [] = true
+areRows (b ∷ []) = true
+areRows (b ∷ c ∷ rows) = isRow b c rows && areRows rows
+
+-- the differences of every set are such rows, by one computed test
+differences-are : (charset : ℕ) → areRows (differences charset) ≡ true
+unfolding areRows characterBy byteBy
+differences-are charset = by-test (λ rows. areRows rows ≡ true) (eqb charset 2) (λ e. refl) (λ e. refl)
+
+record Row (b c : ℕ) (rows : List ℕ) : Type 0 where
+  pub small : b < 256
+  pub scalar : isScalar c ≡ true
+  pub own-byte : characterBy rows b ≡ b
+  pub own-character : byteBy rows c ≡ Nothing
+  pub others : areRows rows ≡ true
+
+no-character : (m : Maybe) → not (isCharacter m) ≡ true → m ≡ Nothing
+no-character Nothing e = refl
+no-character (Character c) e = cc
+
+row : (b c : ℕ) (rows : List ℕ) → areRows (b ∷ c ∷ rows) ≡ true → Row b c rows
+unfolding areRows
+row b c rows e =
+    let here = both (isRow b c rows) (areRows rows) e in
+    let bits = both (leb b 255) _ (here .0) in
+    let value = both (isScalar c) _ (bits .1) in
+    let apart = both (eqb (characterBy rows b) b) _ (value .1) in
+    record {
+      small = omega (arith, leb-true b 255 (bits .0));
+      scalar = value .0;
+      own-byte = eqb-true (characterBy rows b) b (apart .0);
+      own-character = no-character (byteBy rows c) (apart .1);
+      others = here .1;
+    }
+
+-- ---- there and back
+
+no-byte : {b : ℕ} → Nothing ≡ Character b → ⊥
+no-byte e = let z : _≡_ {A = ℕ} 0 1 = cc in omega arith
+
+same-byte : {a b : ℕ} → Character a ≡ Character b → a ≡ b
+same-byte e = cc
+
+own-number : (byte : ℕ) → byte < 256 → asByte byte ≡ Character byte
+own-number byte small = rw (le-leb byte 255 (omega arith))
+
+back-to-byte : (rows : List ℕ) → areRows rows ≡ true → (byte : ℕ) → byte < 256 → byteBy rows (characterBy rows byte) ≡ Character byte
+unfolding characterBy byteBy
+back-to-byte [] h byte small = own-number byte small
+back-to-byte (b ∷ []) h byte small = own-number byte small
+back-to-byte (b ∷ c ∷ rows) h byte small =
+    let here = row b c rows h in
+    by-cases (eqb byte b)
+    (λ e. rw (e, eq-eqb c c refl) (ap Character (sym (eqb-true byte b e))))
+    (λ e.
+    let back = back-to-byte rows (here .others) byte small in
+    let not-c : characterBy rows byte ≡ c → ⊥ = λ q. no-byte (sym (here .own-character) ∙ rw q at back) in
+    let own : byteBy rows b ≡ Character b = rw (here .own-byte) at (back-to-byte rows (here .others) b (here .small)) in
+    let not-b : characterBy rows byte ≡ b → ⊥ = λ q. eqb-false byte b e (same-byte (sym (rw q at back) ∙ own)) in
+    rw (e, ne-eqb (characterBy rows byte) c not-c, ne-eqb (characterBy rows byte) b not-b) back)
+
+-- what is known of the byte that was found for a character
+record Back (rows : List ℕ) (c byte : ℕ) : Type 0 where
+  pub small : byte < 256
+  pub same : characterBy rows byte ≡ c
+
+number-back : (c byte : ℕ) → asByte c ≡ Character byte → (byte < 256) × (byte ≡ c)
+number-back c byte e =
+    by-cases (leb c 255)
+    (λ q. let p : c ≡ byte = same-byte (rw q at e) in (omega (arith, leb-true c 255 q, p), sym p))
+    (λ q. absurd (no-byte (rw q at e)))
+
+back-to-character : (rows : List ℕ) → areRows rows ≡ true → (character byte : ℕ) → byteBy rows character ≡ Character byte → Back rows character byte
+unfolding characterBy byteBy
+back-to-character [] h character byte e = let p = number-back character byte e in record { small = p .0; same = p .1 }
+back-to-character (b ∷ []) h character byte e = let p = number-back character byte e in record { small = p .0; same = p .1 }
+back-to-character (b ∷ c ∷ rows) h character byte e =
+    let here = row b c rows h in
+    by-cases (eqb character c)
+    (λ q. let p : b ≡ byte = same-byte (rw q at e) in record { small = rw (← p) (here .small); same = rw (← p, eq-eqb b b refl) (sym (eqb-true character c q)) })
+    (λ q. by-cases (eqb character b)
+    (λ p. absurd (no-byte (rw (q, p) at e)))
+    (λ p.
+    let back = back-to-character rows (here .others) character byte (rw (q, p) at e) in
+    let not-b : byte ≡ b → ⊥ = λ o. eqb-false character b p (sym (rw o at (back .same)) ∙ here .own-byte) in
+    record { small = back .small; same = rw (ne-eqb byte b not-b) (back .same) }))
+
+module _ (charset : ℕ) where
+  -- the byte of the character of a byte is that byte
+  pub byte-back : (byte : ℕ) → byte < 256 → localByte charset (localCharacter charset byte) ≡ Character byte
+  byte-back = back-to-byte (differences charset) (differences-are charset)
+
+  -- what is found for a character is a byte, and the character of that byte is that character
+  pub byte-small : (c byte : ℕ) → localByte charset c ≡ Character byte → byte < 256
+  byte-small c byte e = back-to-character (differences charset) (differences-are charset) c byte e .small
+
+  pub character-back : (c byte : ℕ) → localByte charset c ≡ Character byte → localCharacter charset byte ≡ c
+  character-back c byte e = back-to-character (differences charset) (differences-are charset) c byte e .same
+
+-- what is known of a byte that a call answered
+pub eight-bits : (r : Maybe) (byte : ℕ) → EightBits r → r ≡ Character byte → byte < 256
+eight-bits r byte h q = rw q at h
+
+-- ---- the character of a byte is a scalar value
+
+scalar-by : (rows : List ℕ) → areRows rows ≡ true → (byte : ℕ) → byte < 256 → isScalar (characterBy rows byte) ≡ true
+unfolding characterBy
+scalar-by [] h byte small = rw (lt-ltb byte 0xD800 (omega arith))
+scalar-by (b ∷ []) h byte small = rw (lt-ltb byte 0xD800 (omega arith))
+scalar-by (b ∷ c ∷ rows) h byte small =
+    let here = row b c rows h in
+    by-test (λ x. isScalar x ≡ true) (eqb byte b) (λ e. here .scalar) (λ e. scalar-by rows (here .others) byte small)
+
+pub local-scalar : (charset byte : ℕ) → byte < 256 → isScalar (localCharacter charset byte) ≡ true
+local-scalar charset = scalar-by (differences charset) (differences-are charset)
