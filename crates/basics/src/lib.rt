@@ -27,7 +27,8 @@ pub enum Refusal {
     UnknownCharset,
 }
 
-// A character, where there is one: a base character, a stand-in, an alias target, what a cell types.
+// A character, where there is one: a base character, a stand-in, an alias target, what a cell types; or the byte that a
+// local character set has for one.
 pub enum Maybe {
     Nothing,
     Character(u32),

@@ -14,7 +14,7 @@ use Rattle.basics.specs.declared.Maybe.the-variants.{Nothing}
 use Rattle.lines.specs.declared.Word.{Word}
 use Rattle.lines.specs.Words.{wordAt, bytesOf, isMissing, sameBytes, isOver}
 use Rattle.lines.specs.Texts.{openingOf, ifDirective}
-use Rattle.operands.specs.Characters.{backslash, byteOf}
+use Rattle.operands.specs.Characters.{backslash, isEscape, byteOf}
 use Rattle.operands.specs.Operands.{wordOperand, dotsOperandAt, ifValue, ifDotsValue}
 use Rattle.operands.specs.declared.Operand.{Operand}
 use Rattle.operands.specs.declared.Operand.the-variants as O
@@ -25,7 +25,7 @@ use Rattle.byte_tables.specs.declared.TableLine.the-variants.{Common, By
 
 -- of the escapes only `\\`, `\x` and `\X` stand here, told by the byte after the backslash
 abbrev pub isByteForm : List ℕ → Bool
-isByteForm w = not (eqb (getD w 0 0) backslash) || (eqb (getD w 1 0) backslash || (eqb (getD w 1 0) 120 || eqb (getD w 1 0) 88))
+isByteForm w = not (isEscape w) || (eqb (getD w 1 0) backslash || (eqb (getD w 1 0) 120 || eqb (getD w 1 0) 88))
 
 -- the byte of a whole word of these forms, in a local character set
 unfoldable pub formByte : ℕ → List ℕ → Maybe

@@ -14,7 +14,7 @@ use Rattle.basics.specs.declared.Maybe.{Maybe}
 use Rattle.basics.specs.declared.Maybe.the-variants.{Nothing, Character}
 use Rattle.unicode.specs.Characters.{isScalar, asByte, localCharacter, localByte}
 use Rattle.unicode.specs.Internal.{EightBits}
-use Rattle.unicode.proofs.Charsets.{local-scalar, byte-small}
+use Rattle.unicode.proofs.Charsets.{local-scalar, local-small}
 use Rattle.operands.specs.Characters.{characterOf, byteOf, byteCharacterOf}
 use Rattle.operands.specs.Dots.{raiseBy, raise, raiseInside, ifRaised, endsAt, digitsAt, insideAt, cellAt, dotsAt}
 use Rattle.operands.specs.Operands.{characterAt, dotsFault, dotsOperandAt}
@@ -49,16 +49,12 @@ if-character P (Character c) n s h = s c h
 number-small : (n : ℕ) → EightBits (asByte n)
 number-small n = by-test EightBits (leb n 255) (λ e. omega (arith, leb-true n 255 e)) (λ e. tt)
 
-local-small : (charset n : ℕ) → EightBits (localByte charset n)
-local-small charset n = go (localByte charset n) refl
-  where
-    go : (m : Maybe) → localByte charset n ≡ m → EightBits m
-    go Nothing e = tt
-    go (Character byte) e = byte-small charset n byte e
+set-small : (charset n : ℕ) → EightBits (localByte charset n)
+set-small charset n = local-small charset n refl
 
 byte-small-of : (charset : ℕ) (w : List ℕ) → EightBits (byteOf charset w)
 unfolding byteOf
-byte-small-of charset w = search (either EightBits, if-character EightBits, number-small, local-small, character-in-range)
+byte-small-of charset w = search (either EightBits, if-character EightBits, number-small, set-small charset, character-in-range)
 
 -- and its character is a scalar value
 byte-character-in-range : (charset : ℕ) (w : List ℕ) → CharacterInRange (byteCharacterOf charset w)

@@ -81,12 +81,12 @@ wordNumber w =
 unfoldable pub characterOf : List ℕ → Maybe
 characterOf w = pick (isScalar (wordNumber w)) (Character (wordNumber w)) Nothing
 
--- \u and \U may not stand in a byte operand
-abbrev pub isUnicodeEscape : List ℕ → Bool
-isUnicodeEscape w = eqb (getD w 0 0) backslash && (eqb (getD w 1 0) 117 || eqb (getD w 1 0) 85)
-
 abbrev pub isEscape : List ℕ → Bool
 isEscape w = eqb (getD w 0 0) backslash
+
+-- \u and \U may not stand in a byte operand
+abbrev pub isUnicodeEscape : List ℕ → Bool
+isUnicodeEscape w = isEscape w && (eqb (getD w 1 0) 117 || eqb (getD w 1 0) 85)
 
 -- the byte of a whole word: an escape is that byte in every set, a character written as itself the byte that the set has for it
 unfoldable pub byteOf : ℕ → List ℕ → Maybe

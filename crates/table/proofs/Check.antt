@@ -12,6 +12,7 @@ use Rattle.basics.specs.Choice.{pick}
 use Rattle.basics.proofs.Tests.{told}
 use Rattle.basics.specs.Internal.{bitsWith, bitsOf}
 use Rattle.basics.proofs.Bits.{or-more, bits-more}
+use Rattle.basics.proofs.Loops.{two-more}
 use Rattle.definitions.specs.declared.Meaning.{Meaning}
 use Rattle.definitions.specs.declared.Definition.{Definition}
 use Rattle.definitions.specs.Definitions.{find}
@@ -20,7 +21,7 @@ use Rattle.table.specs.declared.Checked.{Checked}
 use Rattle.table.specs.declared.Checked.the-variants.{Sound, FaultAt}
 use Rattle.table.specs.Words.{pairWords, tableWords, charsetOf, meaningOf, definitionOf, definitions}
 use Rattle.table.specs.Check.{isZeroPair, isSoundPair, zeroFrom, checkFrom, isSoundEnd, checkOf}
-use Rattle.table.proofs.Pairs.{two-more, definitions-length, definitions-more, rest, scan-here, scan-none}
+use Rattle.table.proofs.Pairs.{definitions-length, definitions-more, rest, scan-here, scan-none}
 
 module _ (ws : List ℕ) (k : ℕ) where
   abbrev character : ℕ

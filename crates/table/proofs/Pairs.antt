@@ -4,22 +4,15 @@ use mathlib.Core.Path.{_≡_, refl, sym, ap, _∙_}
 use mathlib.Core.List.{List, [], _∷_, _++_}
 use native.Mathlib.Omega.{arith}
 use lib.ListN.{length, getD, take, drop, take-append-drop, List·getD-eq-default}
-use lib.Seq.{drop-cons, length-take-le}
+use lib.Seq.{length-take-le}
 use borrow.Author.Tests.{eq-eqb, ne-eqb}
+use Rattle.basics.proofs.Loops.{two-more}
 use Rattle.definitions.specs.declared.Meaning.{Meaning}
 use Rattle.definitions.specs.declared.Definition.{Definition}
 use Rattle.definitions.specs.declared.Found.{Found}
 use Rattle.definitions.specs.declared.Found.the-variants.{Undefined, Is}
 use Rattle.definitions.specs.Definitions.{find}
 use Rattle.table.specs.Words.{pairWords, charsetOf, meaningOf, definitionOf, definitions}
-
-pub two-more : (ws : List ℕ) (j : ℕ) → j + 1 < length ws → drop j ws ≡ getD ws j 0 ∷ getD ws (j + 1) 0 ∷ drop (j + 2) ws
-two-more ws j h =
-    let p : j < length ws = omega arith in
-    let q : suc j < length ws = omega arith in
-    let a : j + 1 ≡ suc j = omega arith in
-    let b : j + 2 ≡ suc (suc j) = omega arith in
-    rw (a, b, drop-cons ws j 0 p, drop-cons ws (suc j) 0 q)
 
 pub definitions-length : (n : ℕ) (ws : List ℕ) → 2 * n ≤ length ws → length (definitions n ws) ≡ n
 unfolding definitions

@@ -11,6 +11,7 @@ use lib.Seq.{append-snoc, take-at, drop-at, drop-drop, getD-drop, length-take-le
 use borrow.Author.Tests.{eqb-true, leb-true, le-leb, lt-leb, ltb-true, ltb-false, le-ltb, not-true}
 use Rattle.basics.specs.Choice.{pick}
 use Rattle.basics.proofs.Tests.{both, by-test}
+use Rattle.basics.proofs.Loops.{two-more}
 use Rattle.basics.specs.Refusals.{Reply, answered}
 use Rattle.unicode.specs.Characters.{isScalar, isCharset}
 use Rattle.definitions.specs.declared.Meaning.{Meaning}
@@ -23,7 +24,6 @@ use Rattle.table.specs.Words.{pairWords, tableWords, kindUnit, wordOf, w
 use Rattle.table.specs.Check.{isZeroPair, isSoundPair, isFresh, zeroFrom, checkFrom, isSoundEnd, andEnd, checkOf, checkedTable, lentTable}
 use Rattle.table.specs.declared.Checked.{Checked}
 use Rattle.table.specs.declared.Checked.the-variants.{Sound, FaultAt}
-use Rattle.table.proofs.Pairs.{two-more}
 
 -- ---- numbers in range
 

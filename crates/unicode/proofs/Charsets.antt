@@ -1,12 +1,14 @@
 -- From a byte to its character and back, in every local character set: each is the other's inverse where it is defined.
-use Prim.Native.Nat.{ℕ, _<_}
+use Prim.Native.Nat.{ℕ, _+_, _*_, _/_, _≤_, _<_}
 use mathlib.Core.Path.{_≡_, refl, sym, ap, _∙_}
-use mathlib.Core.Bool.{Bool, true, false, not, _&&_}
+use mathlib.Core.Bool.{Bool, true, not, _&&_}
 use mathlib.Core.List.{List, [], _∷_}
 use native.Mathlib.Omega.{arith}
 use lib.Dec.{eqb, leb}
+use lib.ListN.{length, getD, drop}
 use borrow.Author.Tests.{eqb-true, eqb-false, leb-true, le-leb, lt-ltb, eq-eqb, ne-eqb}
-use Rattle.basics.specs.Choice.{isCharacter}
+use Rattle.basics.specs.Choice.{pick, isCharacter}
+use Rattle.basics.proofs.Loops.{next-pair, no-pair}
 use Rattle.basics.proofs.Tests.{by-cases, by-test, both}
 use Rattle.basics.specs.declared.Maybe.{Maybe}
 use Rattle.basics.specs.declared.Maybe.the-variants.{Nothing, Character}
@@ -55,6 +57,45 @@ row b c rows e =
       others = here .1;
     }
 
+-- ---- the loops over rows, which have come to row i
+
+few-character : (byte : ℕ) (rest : List ℕ) → length rest < 2 → byte ≡ characterBy rest byte
+unfolding characterBy
+few-character byte [] h = refl
+few-character byte (b ∷ []) h = refl
+few-character byte (b ∷ c ∷ rest) h = absurd (omega arith)
+
+few-byte : (c : ℕ) (rest : List ℕ) → length rest < 2 → asByte c ≡ byteBy rest c
+unfolding byteBy
+few-byte c [] h = refl
+few-byte c (b ∷ []) h = refl
+few-byte c (b ∷ d ∷ rest) h = absurd (omega arith)
+
+module _ (rows : List ℕ) (i byte : ℕ) (inv : characterBy (drop (2 * i) rows) byte ≡ characterBy rows byte) where
+  pub character-here : i < length rows / 2 → getD rows (2 * i) 0 ≡ byte → getD rows (2 * i + 1) 0 ≡ characterBy rows byte
+  unfolding characterBy
+  character-here h e = next-pair (λ l. characterBy l byte) rows i inv h (rw (eq-eqb _ byte e))
+
+  pub character-later : i < length rows / 2 → (getD rows (2 * i) 0 ≡ byte → ⊥) → characterBy (drop (2 * (i + 1)) rows) byte ≡ characterBy rows byte
+  unfolding characterBy
+  character-later h e = next-pair (λ l. characterBy l byte) rows i inv h (rw (ne-eqb _ byte e))
+
+  pub no-character-row : length rows / 2 ≤ i → byte ≡ characterBy rows byte
+  no-character-row h = no-pair (λ l. characterBy l byte) rows i inv h (few-character byte)
+
+module _ (rows : List ℕ) (i c : ℕ) (inv : byteBy (drop (2 * i) rows) c ≡ byteBy rows c) where
+  pub byte-row : {v : Maybe} → i < length rows / 2
+      → v ≡ pick (eqb (getD rows (2 * i + 1) 0) c) (Character (getD rows (2 * i) 0)) (pick (eqb (getD rows (2 * i) 0) c) Nothing (byteBy (drop (2 * (i + 1)) rows) c)) → v ≡ byteBy rows c
+  unfolding byteBy
+  byte-row h e = next-pair (λ l. byteBy l c) rows i inv h e
+
+  pub no-byte-row : {v : Maybe} → length rows / 2 ≤ i → v ≡ asByte c → v ≡ byteBy rows c
+  no-byte-row h e = e ∙ no-pair (λ l. byteBy l c) rows i inv h (few-byte c)
+
+-- w is a byte as a call widened it
+pub widened : (charset : ℕ) {byte w r : ℕ} → charset ≡ 2 → w ≡ byte → r ≡ localCharacter 2 w → r ≡ localCharacter charset byte
+widened charset s e h = rw (s, ← e) h
+
 -- ---- there and back
 
 no-byte : {b : ℕ} → Nothing ≡ Character b → ⊥
@@ -72,14 +113,14 @@ back-to-byte [] h byte small = own-number byte small
 back-to-byte (b ∷ []) h byte small = own-number byte small
 back-to-byte (b ∷ c ∷ rows) h byte small =
     let here = row b c rows h in
-    by-cases (eqb byte b)
-    (λ e. rw (e, eq-eqb c c refl) (ap Character (sym (eqb-true byte b e))))
+    by-cases (eqb b byte)
+    (λ e. rw (e, eq-eqb c c refl) (ap Character (eqb-true b byte e)))
     (λ e.
     let back = back-to-byte rows (here .others) byte small in
-    let not-c : characterBy rows byte ≡ c → ⊥ = λ q. no-byte (sym (here .own-character) ∙ rw q at back) in
+    let not-c : c ≡ characterBy rows byte → ⊥ = λ q. no-byte (sym (here .own-character) ∙ rw (← q) at back) in
     let own : byteBy rows b ≡ Character b = rw (here .own-byte) at (back-to-byte rows (here .others) b (here .small)) in
-    let not-b : characterBy rows byte ≡ b → ⊥ = λ q. eqb-false byte b e (same-byte (sym (rw q at back) ∙ own)) in
-    rw (e, ne-eqb (characterBy rows byte) c not-c, ne-eqb (characterBy rows byte) b not-b) back)
+    let not-b : b ≡ characterBy rows byte → ⊥ = λ q. eqb-false b byte e (same-byte (sym own ∙ rw (← q) at back)) in
+    rw (e, ne-eqb c (characterBy rows byte) not-c, ne-eqb b (characterBy rows byte) not-b) back)
 
 -- what is known of the byte that was found for a character
 record Back (rows : List ℕ) (c byte : ℕ) : Type 0 where
@@ -98,14 +139,14 @@ back-to-character [] h character byte e = let p = number-back character byte e i
 back-to-character (b ∷ []) h character byte e = let p = number-back character byte e in record { small = p .0; same = p .1 }
 back-to-character (b ∷ c ∷ rows) h character byte e =
     let here = row b c rows h in
-    by-cases (eqb character c)
-    (λ q. let p : b ≡ byte = same-byte (rw q at e) in record { small = rw (← p) (here .small); same = rw (← p, eq-eqb b b refl) (sym (eqb-true character c q)) })
-    (λ q. by-cases (eqb character b)
+    by-cases (eqb c character)
+    (λ q. let p : b ≡ byte = same-byte (rw q at e) in record { small = rw (← p) (here .small); same = rw (← p, eq-eqb b b refl) (eqb-true c character q) })
+    (λ q. by-cases (eqb b character)
     (λ p. absurd (no-byte (rw (q, p) at e)))
     (λ p.
     let back = back-to-character rows (here .others) character byte (rw (q, p) at e) in
-    let not-b : byte ≡ b → ⊥ = λ o. eqb-false character b p (sym (rw o at (back .same)) ∙ here .own-byte) in
-    record { small = back .small; same = rw (ne-eqb byte b not-b) (back .same) }))
+    let not-b : b ≡ byte → ⊥ = λ o. eqb-false b character p (sym (here .own-byte) ∙ rw (← o) at (back .same)) in
+    record { small = back .small; same = rw (ne-eqb b byte not-b) (back .same) }))
 
 module _ (charset : ℕ) where
   -- the byte of the character of a byte is that byte
@@ -119,6 +160,14 @@ module _ (charset : ℕ) where
   pub character-back : (c byte : ℕ) → localByte charset c ≡ Character byte → localCharacter charset byte ≡ c
   character-back c byte e = back-to-character (differences charset) (differences-are charset) c byte e .same
 
+-- so it has eight bits
+pub local-small : (charset c : ℕ) {r : Maybe} → r ≡ localByte charset c → EightBits r
+local-small charset c {r} e = go r e
+  where
+    go : (m : Maybe) → m ≡ localByte charset c → EightBits m
+    go Nothing q = tt
+    go (Character byte) q = byte-small charset c byte (sym q)
+
 -- what is known of a byte that a call answered
 pub eight-bits : (r : Maybe) (byte : ℕ) → EightBits r → r ≡ Character byte → byte < 256
 eight-bits r byte h q = rw q at h
@@ -131,7 +180,7 @@ scalar-by [] h byte small = rw (lt-ltb byte 0xD800 (omega arith))
 scalar-by (b ∷ []) h byte small = rw (lt-ltb byte 0xD800 (omega arith))
 scalar-by (b ∷ c ∷ rows) h byte small =
     let here = row b c rows h in
-    by-test (λ x. isScalar x ≡ true) (eqb byte b) (λ e. here .scalar) (λ e. scalar-by rows (here .others) byte small)
+    by-test (λ x. isScalar x ≡ true) (eqb b byte) (λ e. here .scalar) (λ e. scalar-by rows (here .others) byte small)
 
 pub local-scalar : (charset byte : ℕ) → byte < 256 → isScalar (localCharacter charset byte) ≡ true
 local-scalar charset = scalar-by (differences charset) (differences-are charset)

@@ -51,7 +51,7 @@ characterBy [] byte = byte
 characterBy (b ∷ []) byte = byte
 characterBy (b ∷ c ∷ rows) byte =
     let rest : ℕ = characterBy rows byte in
-    pick (eqb byte b) c rest
+    pick (eqb b byte) c rest
 
 -- the byte of a character: that of its row, else its number, but none where a row gives that byte to another character
 unfoldable pub byteBy : List ℕ → ℕ → Maybe
@@ -59,8 +59,8 @@ byteBy [] character = asByte character
 byteBy (b ∷ []) character = asByte character
 byteBy (b ∷ c ∷ rows) character =
     let rest : Maybe = byteBy rows character in
-    pick (eqb character c) (Character b)
-    (pick (eqb character b) Nothing
+    pick (eqb c character) (Character b)
+    (pick (eqb b character) Nothing
     rest)
 
 -- the character that a set has for a byte, and the byte, if any, that it has for a character

@@ -7,7 +7,7 @@ ghost use lib.ListN.{length};
 ghost use Rattle.basics.specs.Internal.{bitsOf};
 ghost use Rattle.unicode.specs.Utf8.{afterFirst, afterFurther, afterByte, atEnd, utf8};
 ghost use Rattle.unicode.specs.Internal.{BadWithin, Resumed, EightBits};
-ghost use Rattle.unicode.specs.Characters.{isScalar, isBraille, isPrivate, isCharset, asByte, localCharacter, localByte, localOf, standsFor, baseOf, standInOf};
+ghost use Rattle.unicode.specs.Characters.{isScalar, isBraille, isPrivate, isCharset, asByte, characterBy, byteBy, localCharacter, localByte, localOf, standsFor, baseOf, standInOf};
 
 // Where the reading of a line as UTF-8 stands: between two characters; in a character that still wants `left` bytes,
 // the next of them from `low` to `high`; or past a bad sequence. The position is where that sequence begins.
@@ -243,47 +243,57 @@ pub fn as_byte(n: u32) -> Maybe
     Maybe::Nothing
 }
 
-// The character of a byte of ISO 8859-15.
-fn latin_9_character(byte: u8) -> u32
-    ensures { λ r. ⌜ r ≡ localCharacter 2 byte ⌝ }
+// Where ISO 8859-15 differs from ISO 8859-1, in which byte n is character n: a byte and its character.
+const DIFFERENCES: [u32; 16] = [
+    0xA4,
+    0x20AC,
+    0xA6,
+    0x160,
+    0xA8,
+    0x161,
+    0xB4,
+    0x17D,
+    0xB8,
+    0x17E,
+    0xBC,
+    0x152,
+    0xBD,
+    0x153,
+    0xBE,
+    0x178,
+];
+
+// The character of a byte by rows of a byte and its character.
+fn character_by(rows: &[u32], byte: u32) -> u32
+    ensures { λ r. ⌜ r ≡ characterBy (now (rows .entry)) byte ⌝ }
 {
-    match byte {
-        0xA4 => 0x20AC,
-        0xA6 => 0x160,
-        0xA8 => 0x161,
-        0xB4 => 0x17D,
-        0xB8 => 0x17E,
-        0xBC => 0x152,
-        0xBD => 0x153,
-        0xBE => 0x178,
-        _ => widen(byte),
+    let mut i = 0;
+    let n = rows.len() / 2;
+    while i < n {
+        if rows[2 * i] == byte {
+            return rows[2 * i + 1];
+        }
+        i += 1;
     }
+    byte
 }
 
-// The byte that ISO 8859-15 has for a character.
-fn latin_9_byte(c: u32) -> Maybe
-    ensures { λ r. ⌜ r ≡ localByte 2 c ⌝ }
-    ensures { λ r. ⌜ EightBits r ⌝ }
+// The byte of a character by such rows.
+fn byte_by(rows: &[u32], c: u32) -> Maybe
+    ensures { λ r. ⌜ r ≡ byteBy (now (rows .entry)) c ⌝ }
 {
-    match c {
-        0x20AC => Maybe::Character(0xA4),
-        0x160 => Maybe::Character(0xA6),
-        0x161 => Maybe::Character(0xA8),
-        0x17D => Maybe::Character(0xB4),
-        0x17E => Maybe::Character(0xB8),
-        0x152 => Maybe::Character(0xBC),
-        0x153 => Maybe::Character(0xBD),
-        0x178 => Maybe::Character(0xBE),
-        0xA4 => Maybe::Nothing,
-        0xA6 => Maybe::Nothing,
-        0xA8 => Maybe::Nothing,
-        0xB4 => Maybe::Nothing,
-        0xB8 => Maybe::Nothing,
-        0xBC => Maybe::Nothing,
-        0xBD => Maybe::Nothing,
-        0xBE => Maybe::Nothing,
-        _ => as_byte(c),
+    let mut i = 0;
+    let n = rows.len() / 2;
+    while i < n {
+        if rows[2 * i + 1] == c {
+            return Maybe::Character(rows[2 * i]);
+        }
+        if rows[2 * i] == c {
+            return Maybe::Nothing;
+        }
+        i += 1;
     }
+    as_byte(c)
 }
 
 // The character that a local character set has for a byte.
@@ -291,7 +301,7 @@ pub fn local_character(charset: u32, byte: u8) -> u32
     ensures { λ r. ⌜ r ≡ localCharacter charset byte ⌝ }
 {
     if charset == ISO_8859_15 {
-        return latin_9_character(byte);
+        return character_by(&DIFFERENCES, widen(byte));
     }
     widen(byte)
 }
@@ -302,7 +312,7 @@ pub fn local_byte(charset: u32, c: u32) -> Maybe
     ensures { λ r. ⌜ EightBits r ⌝ }
 {
     if charset == ISO_8859_15 {
-        return latin_9_byte(c);
+        return byte_by(&DIFFERENCES, c);
     }
     as_byte(c)
 }

@@ -11,11 +11,11 @@ use lib.Seq.{drop-cons}
 use borrow.Author.Tests.{le-leb, leb-true}
 use Rattle.basics.specs.Choice.{pick}
 use Rattle.basics.proofs.Tests.{by-cases}
+use Rattle.basics.proofs.Loops.{two-more}
 use Rattle.basics.specs.Refusals.{Reply, answered, refused}
 use Rattle.basics.specs.declared.Refusal.{Refusal}
 use Rattle.basics.specs.declared.Refusal.the-variants.{BeyondPage}
 use Rattle.table.specs.Words.{charsetOf, tableOf}
-use Rattle.table.proofs.Pairs.{two-more}
 use Rattle.lookup.specs.Internal.{lookupBy}
 use Rattle.windows.specs.declared.Window.{Window}
 use Rattle.windows.specs.declared.Prepared.{Prepared}

@@ -1,4 +1,4 @@
-use Rattle.basics.proofs.Tests.{tests, on-both}
+use Rattle.basics.proofs.Tests.{on-both}
 use borrow.Author.Needs.{needs}
 use Rattle.table.proofs.is_sound_end.Statement.{statement}
 use Rattle.table.proofs.is_sound_end.Tie as tie
