@@ -5,7 +5,7 @@
 
 #include "heathdapple.h"
 
-enum { TEXT_EDITION = 2, TEXT_LIMIT = 65536, TABLE_WORDS = 2048, LINE_LIMIT = 256 };
+enum { TEXT_EDITION = 2, ISO_8859_1 = 1, TEXT_LIMIT = 65536, TABLE_WORDS = 2050, LINE_LIMIT = 256 };
 
 /* One byte more than a text may have, so that a longer one is told from a full one. */
 static uint8_t text[TEXT_LIMIT + 1];
@@ -59,7 +59,7 @@ int main(int argc, char **argv) {
         perror(argv[1]);
         return EXIT_FAILURE;
     }
-    uint64_t code = heathdapple_compile(TEXT_EDITION, text, length, words, TABLE_WORDS);
+    uint64_t code = heathdapple_compile(TEXT_EDITION, ISO_8859_1, text, length, words, TABLE_WORDS);
     if (code >> 48)
         return refused(argv[1], code);
     code = heathdapple_page(words, TABLE_WORDS, characters, count, cells, LINE_LIMIT, rules, LINE_LIMIT);
