@@ -11,14 +11,16 @@
 //! # Ok::<(), heathdapple::Refusal>(())
 //! ```
 //!
+//! The bytes of such a table are those of ISO 8859-1; [`Table::compile_in`] takes another local character set.
+//!
 //! The functions are the library's calls over lent memory. They take any slices and any numbers, and refuse what they
 //! cannot use:
 //!
 //! ```
-//! use heathdapple::{compile, TABLE_WORDS, TEXT_EDITION};
+//! use heathdapple::{compile, ISO_8859_1, TABLE_WORDS, TEXT_EDITION};
 //!
 //! let mut words = [0; TABLE_WORDS];
-//! let refusal = compile(TEXT_EDITION, b"char a 1\n\nifCell 1 glyph a 2\n", &mut words).unwrap_err();
+//! let refusal = compile(TEXT_EDITION, ISO_8859_1, b"char a 1\n\nifCell 1 glyph a 2\n", &mut words).unwrap_err();
 //! assert_eq!((refusal.number, refusal.place, refusal.column), (11, 3, 10));
 //! assert_eq!(refusal.to_string(), "line 3, column 10: character, byte or dot already defined (refusal 11)");
 //! ```
@@ -39,8 +41,11 @@ mod table;
 pub use refusal::Refusal;
 pub use table::Table;
 
-/// The words of a compiled table: two for each of 1,024 definitions.
-pub const TABLE_WORDS: usize = 2048;
+/// The most definitions of a table.
+const DEFINITIONS: u32 = 1024;
+
+/// The words of a compiled table: two for each of 1,024 definitions, its local character set, and zero.
+pub const TABLE_WORDS: usize = 2050;
 
 /// The cells of eight dots, and the bytes: the least length for [`entries`], [`attribute_cells`] and [`byte_cells`].
 pub const CELLS: usize = 256;
@@ -51,6 +56,16 @@ pub const BYTE_EDITION: u32 = 1;
 
 /// The edition of text tables, for [`compile`].
 pub const TEXT_EDITION: u32 = 2;
+
+/// The local character set ISO 8859-1, for [`compile`], [`byte_cells`] and [`Table::compile_in`]: byte n is character n.
+///
+/// A set says which characters the byte operands of a text are, and which one a private-row character (U+F000 to U+F0FF)
+/// stands for in conditions and lookups. Character operands, as that of `char \xA4 1`, are the same in every set.
+pub const ISO_8859_1: u32 = 1;
+
+/// The local character set ISO 8859-15, which differs from [`ISO_8859_1`] in eight bytes: A4 is U+20AC, A6 U+0160, A8
+/// U+0161, B4 U+017D, B8 U+017E, BC U+0152, BD U+0153 and BE U+0178.
+pub const ISO_8859_15: u32 = 2;
 
 /// What a lookup shows.
 #[derive(Clone, Copy, Debug, PartialEq, Eq)]
@@ -83,37 +98,45 @@ fn value(code: u64, most: u32) -> Result<u32, Refusal> {
     }
 }
 
-/// Compiles a text by its edition. A refusal has its line and its column.
+/// Compiles a text by its edition in a local character set. A refusal has its line and its column.
 ///
-/// [`TEXT_EDITION`]: a text table, into the first 2,048 words; answers the count of definitions. A refusal zeroes the 2,048
-/// words, but for 1 and 2, which touch nothing. Words beyond are never touched.
+/// [`TEXT_EDITION`]: a text table, into the first 2,050 words; answers the count of definitions. A refusal zeroes the 2,050
+/// words, which is no table, but for 1 and 2, which touch nothing. Words beyond are never touched. The table keeps its set.
 ///
 /// [`BYTE_EDITION`]: an old byte table; answers the count of its byte lines. The words are neither touched nor tested and
 /// may be empty; [`byte_cells`] gives the cells.
 ///
-/// Any other edition is 20, before all other refusals, and touches nothing.
+/// Any other edition is 20, and then any set but [`ISO_8859_1`] and [`ISO_8859_15`] is 21, before all other refusals; both
+/// touch nothing.
 ///
 /// ```
-/// use heathdapple::{compile, BYTE_EDITION};
+/// use heathdapple::{compile, BYTE_EDITION, ISO_8859_1, ISO_8859_15};
 ///
-/// assert_eq!(compile(BYTE_EDITION, b"byte a 1\nb 12\ndot 8 off\n", &mut []), Ok(2));
-/// assert_eq!(compile(3, b"", &mut []).unwrap_err().to_string(), "edition neither 1 nor 2 (refusal 20)");
+/// assert_eq!(compile(BYTE_EDITION, ISO_8859_1, b"byte a 1\nb 12\ndot 8 off\n", &mut []), Ok(2));
+/// assert_eq!(compile(BYTE_EDITION, ISO_8859_15, "byte € 15\n".as_bytes(), &mut []), Ok(1));
+/// let refused = |edition, set| compile(edition, set, b"", &mut []).unwrap_err().to_string();
+/// assert_eq!(refused(3, ISO_8859_1), "edition neither 1 nor 2 (refusal 20)");
+/// assert_eq!(refused(BYTE_EDITION, 3), "local character set neither 1 nor 2 (refusal 21)");
 /// ```
-pub fn compile(edition: u32, text: &[u8], words: &mut [u32]) -> Result<u32, Refusal> {
-    value(library::compile(edition, text, words), TABLE_WORDS as u32 / 2)
+pub fn compile(edition: u32, set: u32, text: &[u8], words: &mut [u32]) -> Result<u32, Refusal> {
+    value(library::compile(edition, set, text, words), DEFINITIONS)
 }
 
-/// The cells of all 256 bytes by an old byte table's text, in the first 256 bytes; answers the count of byte lines.
+/// The cells of all 256 bytes by an old byte table's text in a local character set, in the first 256 bytes; answers the count
+/// of byte lines.
 ///
-/// Bytes past them stay. A refused text makes all 256 cells 255; only 2, for a buffer that is too short, touches nothing.
+/// Bytes past them stay. A refused text, and 21 for any set but [`ISO_8859_1`] and [`ISO_8859_15`], make all 256 cells 255;
+/// only 2, for a buffer that is too short, before all other refusals, touches nothing.
 ///
 /// ```
-/// let mut cells = [0; heathdapple::CELLS];
-/// assert_eq!(heathdapple::byte_cells(b"byte a 1\n\\x20 0\ndot 8 =blink\n", &mut cells), Ok(2));
+/// use heathdapple::{byte_cells, CELLS, ISO_8859_1};
+///
+/// let mut cells = [0; CELLS];
+/// assert_eq!(byte_cells(ISO_8859_1, b"byte a 1\n\\x20 0\ndot 8 =blink\n", &mut cells), Ok(2));
 /// assert_eq!([b'a', b' ', b'b', 0xE9].map(|byte| cells[usize::from(byte)]), [0x01, 0x00, 0x7F, 0xFF]);
 /// ```
-pub fn byte_cells(text: &[u8], cells: &mut [u8]) -> Result<u32, Refusal> {
-    value(library::byte_cells(text, cells), CELLS as u32)
+pub fn byte_cells(set: u32, text: &[u8], cells: &mut [u8]) -> Result<u32, Refusal> {
+    value(library::byte_cells(set, text, cells), CELLS as u32)
 }
 
 /// Looks a character up on a compiled table.
@@ -217,9 +240,9 @@ mod tests {
     #[test]
     fn calls_over_lent_memory() {
         let mut words = [7; TABLE_WORDS + 1];
-        assert_eq!(compile(TEXT_EDITION, b"char a 1\nglyph A 17\n", &mut words), Ok(2));
+        assert_eq!(compile(TEXT_EDITION, ISO_8859_1, b"char a 1\nglyph A 17\n", &mut words), Ok(2));
         assert_eq!(words[..5], [0x61, 0x0100_0001, 0x41, 0x0200_0041, 0]);
-        assert_eq!(words[TABLE_WORDS], 7);
+        assert_eq!(words[TABLE_WORDS - 3..], [0, 1, 0, 7]);
         assert_eq!(look_up(&words, 0xF0C5), Ok(Shown { cell: 0x41, rule: 21, links: 0 }));
         assert_eq!(look_up(&words, 0xD800), Err(Refusal { number: 14, place: 0, column: 0 }));
         let (mut cells, mut rules) = ([9; 3], [9; 2]);
@@ -233,6 +256,8 @@ mod tests {
         words[3] = 5;
         assert_eq!(entries(&words, &mut all), Err(Refusal { number: 15, place: 1, column: 0 }));
         assert_eq!(typed(&[], 0), Err(Refusal { number: 2, place: 0, column: 0 }));
+        assert_eq!(typed(&words[..TABLE_WORDS - 1], 0), Err(Refusal { number: 2, place: 0, column: 0 }));
+        assert_eq!(typed(&[0; TABLE_WORDS], 0), Err(Refusal { number: 15, place: 1024, column: 0 }));
     }
 
     #[test]
@@ -240,11 +265,11 @@ mod tests {
         let mut words = [7; TABLE_WORDS];
         let refused = |number, place, column| Err(Refusal { number, place, column });
         let text = "char é 1\r\nifGlyph é char € (1 9)\r\n";
-        assert_eq!(compile(TEXT_EDITION, text.as_bytes(), &mut words), refused(8, 2, 21));
+        assert_eq!(compile(TEXT_EDITION, ISO_8859_1, text.as_bytes(), &mut words), refused(8, 2, 21));
         assert_eq!(words, [0; TABLE_WORDS]);
-        assert_eq!(compile(TEXT_EDITION, b"ifGlyph a \n", &mut words), refused(18, 1, 0));
-        assert_eq!(compile(TEXT_EDITION, b"x", &mut words[1..]), refused(2, 0, 0));
-        assert_eq!(compile(TEXT_EDITION, &[b'\n'; 65_537], &mut words), refused(1, 0, 0));
+        assert_eq!(compile(TEXT_EDITION, ISO_8859_1, b"ifGlyph a \n", &mut words), refused(18, 1, 0));
+        assert_eq!(compile(TEXT_EDITION, ISO_8859_1, b"x", &mut words[1..]), refused(2, 0, 0));
+        assert_eq!(compile(TEXT_EDITION, ISO_8859_1, &[b'\n'; 65_537], &mut words), refused(1, 0, 0));
     }
 
     #[test]
@@ -252,19 +277,19 @@ mod tests {
         let refused = |number, place, column| Err(Refusal { number, place, column });
         let text = b"byte a 1\nb (1 2)\n\\x20 0\ndot 8 off\ndot 1 =fg-blue\n";
         let mut words = [7; TABLE_WORDS];
-        assert_eq!(compile(BYTE_EDITION, text, &mut words), Ok(3));
-        assert_eq!(compile(BYTE_EDITION, b"byte a", &mut words), refused(6, 1, 7));
+        assert_eq!(compile(BYTE_EDITION, ISO_8859_1, text, &mut words), Ok(3));
+        assert_eq!(compile(BYTE_EDITION, ISO_8859_1, b"byte a", &mut words), refused(6, 1, 7));
         assert_eq!(words, [7; TABLE_WORDS]);
-        assert_eq!(compile(BYTE_EDITION, b"", &mut []), Ok(0));
+        assert_eq!(compile(BYTE_EDITION, ISO_8859_1, b"", &mut []), Ok(0));
         let mut cells = [9; CELLS + 1];
-        assert_eq!(byte_cells(text, &mut cells), Ok(3));
+        assert_eq!(byte_cells(ISO_8859_1, text, &mut cells), Ok(3));
         assert_eq!(cells[usize::from(b'`')..=usize::from(b'd')], [0x7E, 0x01, 0x03, 0x7F, 0x7E]);
         assert_eq!((cells[0x20], cells[0xFF], cells[CELLS]), (0x00, 0x7F, 9));
-        assert_eq!(byte_cells(b"a 1\n \\x61 2\n", &mut cells), refused(11, 2, 2));
+        assert_eq!(byte_cells(ISO_8859_1, b"a 1\n \\x61 2\n", &mut cells), refused(11, 2, 2));
         assert_eq!((cells[..CELLS] == [255; CELLS], cells[CELLS]), (true, 9));
-        assert_eq!(byte_cells(b"", &mut [9; CELLS - 1]), refused(2, 0, 0));
+        assert_eq!(byte_cells(ISO_8859_1, b"", &mut [9; CELLS - 1]), refused(2, 0, 0));
         let all: String = (0..=255).map(|byte| format!("\\x{byte:02x} 0\n")).collect();
-        assert_eq!(byte_cells(all.as_bytes(), &mut cells), Ok(256));
+        assert_eq!(byte_cells(ISO_8859_1, all.as_bytes(), &mut cells), Ok(256));
         assert_eq!(cells[..CELLS], [0; CELLS]);
     }
 
@@ -273,17 +298,49 @@ mod tests {
         let mut words = [7; TABLE_WORDS];
         for edition in [0, 3, u32::MAX] {
             let refused = Err(Refusal { number: 20, place: 0, column: 0 });
-            assert_eq!(compile(edition, b"char a 1\n", &mut words), refused);
-            assert_eq!(compile(edition, b"x", &mut words[1..]), refused);
-            assert_eq!(compile(edition, &[b'\n'; 65_537], &mut []), refused);
+            assert_eq!(compile(edition, ISO_8859_1, b"char a 1\n", &mut words), refused);
+            assert_eq!(compile(edition, ISO_8859_15, b"x", &mut words[1..]), refused);
+            assert_eq!(compile(edition, 0, &[b'\n'; 65_537], &mut []), refused);
         }
         assert_eq!(words, [7; TABLE_WORDS]);
     }
 
     #[test]
+    fn sets() {
+        let refused = |number, place, column| Err(Refusal { number, place, column });
+        let mut words = [7; TABLE_WORDS];
+        for set in [0, 3, u32::MAX] {
+            assert_eq!(compile(TEXT_EDITION, set, b"char a 1\n", &mut words), refused(21, 0, 0));
+            assert_eq!(compile(TEXT_EDITION, set, b"x", &mut words[1..]), refused(21, 0, 0));
+            assert_eq!(compile(BYTE_EDITION, set, &[b'\n'; 65_537], &mut []), refused(21, 0, 0));
+            let mut cells = [9; CELLS + 1];
+            assert_eq!(byte_cells(set, b"a 1\n", &mut cells[..CELLS - 1]), refused(2, 0, 0));
+            assert_eq!(cells, [9; CELLS + 1]);
+            assert_eq!(byte_cells(set, b"a 1\n", &mut cells), refused(21, 0, 0));
+            assert_eq!((cells[..CELLS] == [255; CELLS], cells[CELLS]), (true, 9));
+        }
+        assert_eq!(words, [7; TABLE_WORDS]);
+        let (euro, sign) = (0x20AC, 0xA4);
+        for (set, local, other) in [(ISO_8859_1, sign, euro), (ISO_8859_15, euro, sign)] {
+            assert_eq!(compile(TEXT_EDITION, set, b"byte \\xA4 1\n", &mut words), Ok(1));
+            assert_eq!((words[0], words[TABLE_WORDS - 2..].to_vec()), (local, vec![set, 0]));
+            assert_eq!(look_up(&words, 0xF0A4), Ok(Shown { cell: 1, rule: 19, links: 0 }));
+            assert_eq!(look_up(&words, other), Ok(Shown { cell: 255, rule: 9, links: 0 }));
+            let written = |character: u32| format!("byte {} 1\n", char::from_u32(character).unwrap_or_default());
+            let mut cells = [0; CELLS];
+            assert_eq!(byte_cells(set, written(local).as_bytes(), &mut cells), Ok(1));
+            assert_eq!(cells[0xA4], 1);
+            assert_eq!(byte_cells(set, written(other).as_bytes(), &mut cells), refused(7, 1, 6));
+            assert_eq!(compile(TEXT_EDITION, set, written(local).as_bytes(), &mut words), Ok(1));
+            assert_eq!(compile(TEXT_EDITION, set, written(other).as_bytes(), &mut words), refused(7, 1, 6));
+            assert_eq!(words, [0; TABLE_WORDS]);
+        }
+    }
+
+    #[test]
     fn windows_of_a_page() {
         let mut words = [0; TABLE_WORDS];
-        assert_eq!(compile(TEXT_EDITION, b"char a 1\nchar b 12\n", &mut words), Ok(2));
+        assert_eq!(compile(TEXT_EDITION, ISO_8859_1, b"char a 1\nchar b 12\n", &mut words), Ok(2));
         let page = [0x61, 0x62, 0x2809];
         let shown = |page: &[u32], parts: &[(usize, usize)], length: usize| {
             let list: Vec<Window> = parts.iter().map(|&(start, width)| Window { start, width }).collect();

@@ -16,12 +16,19 @@ mod c {
     extern "C" {
         pub fn heathdapple_compile(
             edition: u32,
+            set: u32,
             text: *const u8,
             text_length: usize,
             words: *mut u32,
             words_length: usize,
         ) -> u64;
-        pub fn heathdapple_byte_cells(text: *const u8, text_length: usize, cells: *mut u8, cells_length: usize) -> u64;
+        pub fn heathdapple_byte_cells(
+            set: u32,
+            text: *const u8,
+            text_length: usize,
+            cells: *mut u8,
+            cells_length: usize,
+        ) -> u64;
         pub fn heathdapple_look_up(words: *const u32, words_length: usize, character: u32) -> u64;
         pub fn heathdapple_page(
             words: *const u32,
@@ -62,14 +69,15 @@ mod c {
     }
 }
 
-pub fn compile(edition: u32, text: &[u8], words: &mut [u32]) -> u64 {
-    // SAFETY: `text` is read and `words` written, each within its slice; any number is an edition to ask for.
-    unsafe { c::heathdapple_compile(edition, text.as_ptr(), text.len(), words.as_mut_ptr(), words.len()) }
+pub fn compile(edition: u32, set: u32, text: &[u8], words: &mut [u32]) -> u64 {
+    // SAFETY: `text` is read and `words` written, each within its slice; any numbers are an edition and a set to ask for.
+    unsafe { c::heathdapple_compile(edition, set, text.as_ptr(), text.len(), words.as_mut_ptr(), words.len()) }
 }
 
-pub fn byte_cells(text: &[u8], cells: &mut [u8]) -> u64 {
-    // SAFETY: `text` is read and `cells` written, each within its slice; fewer than 256 cells are refused.
-    unsafe { c::heathdapple_byte_cells(text.as_ptr(), text.len(), cells.as_mut_ptr(), cells.len()) }
+pub fn byte_cells(set: u32, text: &[u8], cells: &mut [u8]) -> u64 {
+    // SAFETY: `text` is read and `cells` written, each within its slice; fewer than 256 cells are refused, and any number
+    // is a set to ask for.
+    unsafe { c::heathdapple_byte_cells(set, text.as_ptr(), text.len(), cells.as_mut_ptr(), cells.len()) }
 }
 
 pub fn look_up(words: &[u32], character: u32) -> u64 {

@@ -9,10 +9,10 @@ use std::fmt;
 /// ```
 #[derive(Clone, Copy, Debug, PartialEq, Eq)]
 pub struct Refusal {
-    /// 1 to 20; 0 for an answer that the call never gives.
+    /// 1 to 21; 0 for an answer that the call never gives.
     pub number: u32,
     /// A line from 1, or a pair of words, a character or a window of a call's list from 0; 2^32 - 1 also for a greater
-    /// one.
+    /// one. The last two words of a table are pair 1,024.
     pub place: u32,
     /// Where on its line the text is at fault, in bytes from 1, for 3 to 13, 16 and 17; 0 for all other numbers.
     ///
@@ -29,7 +29,7 @@ impl Refusal {
         match self.number {
             0 => "not an answer of this call",
             1 => "text over 65,536 bytes",
-            2 => "table under 2,048 words, or a buffer that is too short",
+            2 => "table under 2,050 words, or a buffer that is too short",
             3 => "line over 1,024 bytes",
             4 => "line not UTF-8",
             5 => "unknown directive word",
@@ -48,6 +48,7 @@ impl Refusal {
             18 => "block open at the end of the text",
             19 => "window beyond the page",
             20 => "edition neither 1 nor 2",
+            21 => "local character set neither 1 nor 2",
             _ => "refused for a reason unknown here",
         }
     }
@@ -57,7 +58,7 @@ impl fmt::Display for Refusal {
     fn fmt(&self, f: &mut fmt::Formatter<'_>) -> fmt::Result {
         let place = match self.number {
             0 => "answer",
-            1 | 2 | 20 => "",
+            1 | 2 | 20 | 21 => "",
             3..=13 | 16..=18 => "line",
             14 => "character",
             15 => "pair",
@@ -95,7 +96,8 @@ mod tests {
             (18, 2, 0, "line 2: block open at the end of the text (refusal 18)"),
             (19, 4, 0, "window 4: window beyond the page (refusal 19)"),
             (20, 0, 0, "edition neither 1 nor 2 (refusal 20)"),
-            (21, 4, 0, "place 4: refused for a reason unknown here (refusal 21)"),
+            (21, 0, 0, "local character set neither 1 nor 2 (refusal 21)"),
+            (22, 4, 0, "place 4: refused for a reason unknown here (refusal 22)"),
             (u32::MAX, 0, 5, "place 0, column 5: refused for a reason unknown here (refusal 4294967295)"),
         ] {
             assert_eq!(Refusal { number, place, column }.to_string(), message);

@@ -1,4 +1,4 @@
-use crate::{Refusal, Shown, Window, CELLS, TABLE_WORDS, TEXT_EDITION};
+use crate::{Refusal, Shown, Window, CELLS, ISO_8859_1, TABLE_WORDS, TEXT_EDITION};
 
 /// A compiled text table that owns its words.
 ///
@@ -11,16 +11,36 @@ pub struct Table {
 }
 
 impl Table {
-    /// Compiles a text of [`TEXT_EDITION`], or answers its refusal with line and column.
+    /// Compiles a text of [`TEXT_EDITION`] in [`ISO_8859_1`], or answers its refusal with line and column.
     pub fn compile(text: &[u8]) -> Result<Table, Refusal> {
+        Table::compile_in(ISO_8859_1, text)
+    }
+
+    /// Compiles a text of [`TEXT_EDITION`] in a local character set, or answers its refusal with line and column; a set that
+    /// there is not is 21.
+    ///
+    /// ```
+    /// use heathdapple::{Table, ISO_8859_15};
+    ///
+    /// let table = Table::compile_in(ISO_8859_15, b"byte \\xA4 15\n")?;
+    /// assert_eq!(table.look_up('€')?.cell, 0x11);
+    /// assert_eq!(table.look_up('\u{F0A4}')?.cell, 0x11);
+    /// # Ok::<(), heathdapple::Refusal>(())
+    /// ```
+    pub fn compile_in(set: u32, text: &[u8]) -> Result<Table, Refusal> {
         let mut words = vec![0; TABLE_WORDS].into_boxed_slice();
-        let definitions = crate::compile(TEXT_EDITION, text, &mut words)?;
+        let definitions = crate::compile(TEXT_EDITION, set, text, &mut words)?;
         Ok(Table { words, definitions })
     }
 
-    /// The 2,048 words, as the calls over lent words take them.
+    /// The 2,050 words, as the calls over lent words take them.
     pub fn words(&self) -> &[u32] {
         &self.words
+    }
+
+    /// The local character set that it was compiled in.
+    pub fn set(&self) -> u32 {
+        self.words[TABLE_WORDS - 2]
     }
 
     /// The count of definitions.
@@ -65,12 +85,12 @@ impl Table {
 #[cfg(test)]
 mod tests {
     use super::Table;
-    use crate::{Refusal, Shown, Window};
+    use crate::{Refusal, Shown, Window, ISO_8859_1, ISO_8859_15};
 
     #[test]
     fn owned() {
         let table = Table::compile(b"char a 1\nchar b 1\nalias \\u03B1 a\n").expect("an accepted text");
-        assert_eq!((table.definitions(), table.words().len()), (3, 2048));
+        assert_eq!((table.definitions(), table.words().len()), (3, 2050));
         assert_eq!(table.look_up('α'), Ok(Shown { cell: 1, rule: 4, links: 1 }));
         assert_eq!((table.typed(1), table.typed(2)), (Ok(Some('a')), Ok(None)));
         let entries = table.entries().expect("a compiled table");
@@ -89,5 +109,19 @@ mod tests {
         assert_eq!(Table::compile(b"\nifNotGlyph a alias a a\n"), refused(12, 2, 14));
         assert_eq!(Table::compile(b"ifGlyph a\nendIf\n endIf\n"), refused(17, 3, 2));
         assert_eq!(Table::compile(b"\nifGlyph a\nelse\n"), refused(18, 2, 0));
+        assert_eq!(Table::compile_in(0, b""), refused(21, 0, 0));
+    }
+
+    #[test]
+    fn sets() {
+        let text = b"byte \\xBE 1\nifGlyph \\uF0BE char a 12\n";
+        let table = Table::compile(text).expect("an accepted text");
+        assert_eq!((table.set(), table.definitions()), (ISO_8859_1, 2));
+        assert_eq!(table.look_up('¾'), Ok(Shown { cell: 1, rule: 3, links: 0 }));
+        let table = Table::compile_in(ISO_8859_15, text).expect("an accepted text");
+        assert_eq!((table.set(), table.definitions()), (ISO_8859_15, 2));
+        assert_eq!(table.look_up('Ÿ'), Ok(Shown { cell: 1, rule: 3, links: 0 }));
+        assert_eq!(table.look_up('¾'), Ok(Shown { cell: 255, rule: 9, links: 0 }));
+        assert_eq!(table.look_up('\u{F0BE}'), Ok(Shown { cell: 1, rule: 19, links: 0 }));
     }
 }
