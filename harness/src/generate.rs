@@ -2,8 +2,8 @@
 
 use crate::random::Random;
 use crate::reference::{
-    self, Block, ByteTable, Condition, Meanings, Pairs, Place, Reading, Window, CONDITIONS, LINE_BYTES, PAIRS,
-    TEXT_BYTES, WORDS,
+    self, Block, ByteTable, Condition, Meanings, Pairs, Place, Reading, Set, Window, CONDITIONS, DIFFERENCES,
+    LINE_BYTES, PAIRS, SET_WORD, TEXT_BYTES, WORDS,
 };
 
 /// Characters that the rules know: bases, characters with a base, stand-ins and characters with one.
@@ -59,9 +59,36 @@ fn pool_character(random: &mut Random) -> u32 {
     }
 }
 
+/// A character around a byte in which the sets differ: that of either set, the private-row one, or the next to these.
+fn differing(random: &mut Random) -> u32 {
+    let byte = *random.pick(&DIFFERENCES);
+    let [first, second] = Set::ALL.map(|set| set.character(byte));
+    match random.below(20) {
+        0..=5 => first,
+        6..=11 => second,
+        12..=16 => private(second),
+        17 => first - 1,
+        18 => second + 1,
+        _ => second - 1,
+    }
+}
+
+/// Characters to draw from; of 30 texts or tables in a hundred they are around the bytes in which the sets differ.
+fn pool(random: &mut Random, size: usize) -> Vec<u32> {
+    let draw = if random.percent(30) { differing } else { pool_character };
+    (0..size).map(|_| draw(random)).collect()
+}
+
+/// The private-row character that stands for a character in a set, or else that of its low byte.
+fn private(character: u32) -> u32 {
+    0xF000 + Set::Iso8859_15.byte(character).map_or(character % 256, u32::from)
+}
+
 /// A text and the characters it draws from.
 pub struct Text {
     pub bytes: Vec<u8>,
+    /// The set that it is made for.
+    pub set: Set,
     pub alphabet: Vec<u32>,
     /// The most blocks that were open at once, before any damage.
     pub depth: usize,
@@ -70,6 +97,7 @@ pub struct Text {
 /// Makes the lines of one text.
 struct Maker<'r> {
     random: &'r mut Random,
+    set: Set,
     bytes: Vec<u8>,
     alphabet: Vec<u32>,
     cells: Vec<u8>,
@@ -106,7 +134,11 @@ const BAD_CHARACTERS: [&str; 34] = [
     "\\<A>", "\\{a}", "\\ss", "\\##", "\\\\\\", "é\\", "##", "#a", "a\r", "\\u00e",
 ];
 
-const BAD_BYTES: [&str; 6] = ["\\u0041", "\\U00000041", "\\o400", "\\o777", "Ā", "€"];
+/// No bytes in any set; also numbers over 255 of characters that ISO 8859-15 has.
+const BAD_BYTES: [&str; 12] = [
+    "\\u0041", "\\U00000041", "\\o400", "\\o777", "Ā", "\\u20AC", "\\u00A4", "\\o540", "\\o575", "\\o522", "\u{F0A4}",
+    "\u{F061}",
+];
 
 const BAD_DOTS: [&str; 35] = [
     "9", "11", "00", "01", "10", "121", "123456781", "(11)", "(1 1)", "(0)", "(1 0)", "(9)", "(1 2", "(", "( ", ")",
@@ -136,7 +168,8 @@ impl Maker<'_> {
             1..=5 => random.between(1, 3),
             _ => random.between(3, 12),
         };
-        let alphabet = (0..size).map(|_| pool_character(random)).collect();
+        let set = *random.pick(&Set::ALL);
+        let alphabet = pool(random, size);
         let cells = (0..random.between(1, 5)).map(|_| random.byte()).collect();
         let aliases = *random.pick(&[10, 35, 35, 35, 80]);
         let most_blocks = match random.below(20) {
@@ -147,6 +180,7 @@ impl Maker<'_> {
         };
         Maker {
             random,
+            set,
             bytes: Vec::new(),
             alphabet,
             cells,
@@ -155,7 +189,7 @@ impl Maker<'_> {
             depth: 0,
             asked: Vec::new(),
             words: vec![0; WORDS],
-            reading: Reading::default(),
+            reading: Reading::new(set),
             byte_table: ByteTable::default(),
         }
     }
@@ -190,7 +224,18 @@ impl Maker<'_> {
     }
 
     /// A character in any form that can write it.
-    fn write_character(&mut self, bytes: &mut Vec<u8>, character: u32, unicode: bool) {
+    fn write_character(&mut self, bytes: &mut Vec<u8>, character: u32) {
+        self.write_operand(bytes, character, character, true);
+    }
+
+    /// A byte in any form that a text table has for it.
+    fn write_byte(&mut self, bytes: &mut Vec<u8>, byte: u8) {
+        let character = self.set.character(byte);
+        self.write_operand(bytes, character, byte.into(), false);
+    }
+
+    /// An operand as the character itself, or by an escape for the number; `unicode` admits `\u` and `\U`.
+    fn write_operand(&mut self, bytes: &mut Vec<u8>, character: u32, number: u32, unicode: bool) {
         let raw = !matches!(character, 0x09 | 0x0A | 0x20 | 0x5C);
         if raw && self.random.percent(60) {
             add_character(bytes, character);
@@ -198,11 +243,11 @@ impl Maker<'_> {
         }
         loop {
             let form = match self.random.below(6) {
-                0 if character <= 0o777 => format!("\\o{character:03o}"),
-                1 if character <= 0xFF => self.hex_escape(character),
-                2 if character <= 0xFFFF && unicode => format!("\\u{}", self.hex(character, 4)),
-                3 if unicode => format!("\\U{}", self.hex(character, 8)),
-                4 | 5 => match character {
+                0 if number <= 0o777 => format!("\\o{number:03o}"),
+                1 if number <= 0xFF => self.hex_escape(number),
+                2 if number <= 0xFFFF && unicode => format!("\\u{}", self.hex(number, 4)),
+                3 if unicode => format!("\\U{}", self.hex(number, 8)),
+                4 | 5 => match number {
                     8 => "\\b".into(),
                     9 => "\\t".into(),
                     10 => "\\n".into(),
@@ -224,7 +269,7 @@ impl Maker<'_> {
     fn draw(&mut self) -> u32 {
         match self.random.below(25) {
             0 => any_scalar(self.random),
-            1 => 0xF000 + self.random.pick(&self.alphabet) % 256,
+            1 => private(*self.random.pick(&self.alphabet)),
             2..=8 if self.open() > 0 && !self.asked.is_empty() => *self.random.pick(&self.asked),
             _ => *self.random.pick(&self.alphabet),
         }
@@ -232,17 +277,33 @@ impl Maker<'_> {
 
     fn character(&mut self, bytes: &mut Vec<u8>) {
         let character = self.draw();
-        self.write_character(bytes, character, true);
+        self.write_character(bytes, character);
     }
 
+    /// The byte of a character of the alphabet in one of the sets, or else any byte.
     fn draw_byte(&mut self) -> u8 {
         let drawn = *self.random.pick(&self.alphabet);
-        u8::try_from(drawn).unwrap_or_else(|_| self.random.byte())
+        let local = Set::ALL.iter().any(|set| set.byte(drawn).is_some()) || drawn == private(drawn);
+        if local {
+            private(drawn) as u8
+        } else {
+            self.random.byte()
+        }
     }
 
     fn byte(&mut self, bytes: &mut Vec<u8>) {
-        let character = self.draw_byte().into();
-        self.write_character(bytes, character, false);
+        let byte = self.draw_byte();
+        self.write_byte(bytes, byte);
+    }
+
+    /// A word that is no byte of the set, at times since only the other set has it.
+    fn write_bad_byte(&mut self, bytes: &mut Vec<u8>) {
+        if self.random.percent(50) {
+            bytes.extend(self.random.pick(&BAD_BYTES).as_bytes());
+            return;
+        }
+        let other = Set::ALL[usize::from(self.set == Set::Iso8859_1)];
+        add_character(bytes, other.character(*self.random.pick(&DIFFERENCES)));
     }
 
     fn cell(&mut self) -> u8 {
@@ -290,7 +351,7 @@ impl Maker<'_> {
 
     /// Whether a condition holds with the lines so far.
     fn holds(&self, condition: Condition) -> bool {
-        Pairs(&self.words[..2 * self.reading.count]).holds(condition)
+        Pairs(&self.words[..2 * self.reading.count]).holds(condition, self.set)
     }
 
     /// A condition, which holds more often than not.
@@ -308,7 +369,7 @@ impl Maker<'_> {
             if wish {
                 plain = self.holds(Condition::Glyph(character, true));
             }
-            self.write_character(&mut operand, character, true);
+            self.write_character(&mut operand, character);
             ["ifNotGlyph", "ifGlyph"]
         } else {
             let cell = self.cell();
@@ -513,7 +574,7 @@ impl Maker<'_> {
             }
             4 => {
                 bytes.extend(b"byte ");
-                bytes.extend(self.random.pick(&BAD_BYTES).as_bytes());
+                self.write_bad_byte(&mut bytes);
                 self.blanks(&mut bytes);
                 self.write_dots(&mut bytes);
             }
@@ -795,12 +856,26 @@ pub fn text(random: &mut Random) -> Text {
     let open = maker.open();
     let left = if maker.random.percent(5) { maker.random.below(open + 1) } else { 0 };
     maker.close(left);
-    let Maker { mut bytes, alphabet, depth, .. } = maker;
+    let Maker { mut bytes, set, alphabet, depth, .. } = maker;
     if mode > 85 {
         damage(random, &mut bytes);
     }
     end_text(random, &mut bytes);
-    Text { bytes, alphabet, depth }
+    Text { bytes, set, alphabet, depth }
+}
+
+/// A text table's text and the length of a first part, empty or to the end of a line. Both are accepted, but for a few where
+/// the CR of an operand is taken for that of the line's end.
+pub fn growing_text(random: &mut Random) -> (Text, usize) {
+    let mut maker = Maker::new(random);
+    let counts = [maker.random.below(10), maker.random.between(1, 8)];
+    let [first, _] = counts.map(|count| {
+        maker.add_lines(count + maker.most_blocks, true);
+        maker.close(0);
+        maker.bytes.len()
+    });
+    let Maker { bytes, set, alphabet, depth, .. } = maker;
+    (Text { bytes, set, alphabet, depth }, first)
 }
 
 /// Fills a text with comments and blank lines up to `length`, within its lines' limit.
@@ -891,7 +966,7 @@ pub fn large_text(random: &mut Random) -> Text {
         bytes.extend(b"\nelse\nchar \\uF8FE 1\nendIf\n");
     }
     let depth = usize::from(inside) + usize::from(last.ends_with(b"endIf"));
-    Text { bytes, alphabet, depth }
+    Text { bytes, set: *random.pick(&Set::ALL), alphabet, depth }
 }
 
 fn chain(links: usize) -> (Vec<u32>, Vec<String>) {
@@ -925,7 +1000,7 @@ pub fn chain_text(random: &mut Random, links: usize) -> Text {
     if in_block {
         text += "char d 1\nendIf\n";
     }
-    Text { bytes: text.into_bytes(), alphabet, depth: usize::from(in_block) }
+    Text { bytes: text.into_bytes(), set: *random.pick(&Set::ALL), alphabet, depth: usize::from(in_block) }
 }
 
 /// A chain of aliases from U+0400 to an explicit character, each alias said before those that lead to it: every
@@ -957,12 +1032,13 @@ fn near(random: &mut Random, alphabet: &[u32]) -> u32 {
 pub fn query(random: &mut Random, alphabet: &[u32]) -> u32 {
     match random.below(40) {
         0..=12 if !alphabet.is_empty() => *random.pick(alphabet),
-        13..=16 if !alphabet.is_empty() => 0xF000 + random.pick(alphabet) % 256,
+        13..=16 if !alphabet.is_empty() => private(*random.pick(alphabet)),
         17..=21 => near(random, alphabet),
         22..=25 => 0xF000 + near(random, alphabet) % 256,
         26 | 27 => random.between(0xA0, 0xFF) as u32,
         28 => 0xF0A0 + random.below(0x60) as u32,
-        29..=31 => *random.pick(&KNOWN),
+        29 | 30 => *random.pick(&KNOWN),
+        31 => differing(random),
         32 => 0x2800 + u32::from(random.byte()),
         33 => 0xF000 + u32::from(random.byte()),
         34 => *random.pick(&BORDERS),
@@ -980,15 +1056,50 @@ fn sound_second_word(random: &mut Random, characters: &[u32]) -> u32 {
     }
 }
 
-/// Changes a compiled table of `count` definitions by a word or a pair; it may stay one.
+/// Changes the set of a compiled table, the zero behind it, or both; it may stay one, of either set.
+pub fn damage_set(random: &mut Random, words: &mut [u32]) {
+    let mut wrong = || match random.below(7) {
+        0 => 0,
+        1 => random.between(1, 4) as u32,
+        // 1 or 2 in fewer bits.
+        2 => 1 << random.between(2, 31) | random.between(1, 2) as u32,
+        3 => 1 << random.below(32),
+        4 => u32::MAX - random.below(3) as u32,
+        _ => random.word(),
+    };
+    let [set, zero] = [wrong(), wrong()];
+    let place = random.below(7);
+    if place == 6 {
+        words.swap(SET_WORD, SET_WORD + 1);
+        return;
+    }
+    if place < 4 {
+        words[SET_WORD] = set;
+    }
+    if place > 2 {
+        words[SET_WORD + 1] = zero;
+    }
+}
+
+/// Changes a compiled table of `count` definitions by a word or a pair, by its set, or by both; it may stay one.
 pub fn damage_table(random: &mut Random, words: &mut [u32], count: usize) {
+    let drawn = random.below(10);
+    if drawn < 4 {
+        damage_set(random, words);
+    }
+    if drawn > 1 {
+        damage_pairs(random, words, count);
+    }
+}
+
+fn damage_pairs(random: &mut Random, words: &mut [u32], count: usize) {
     let pair = if count > 0 && random.percent(85) { random.below(count) } else { random.below(PAIRS.min(count + 3)) };
     let other = random.below(PAIRS.min(count + 1));
     let (first, second) = (2 * pair, 2 * pair + 1);
     match random.below(14) {
         0 => words[first + random.below(2)] ^= 1 << random.below(32),
         1 => words[first + random.below(2)] = random.word(),
-        2 => words[random.below(WORDS)] = random.word(),
+        2 => words[random.below(SET_WORD)] = random.word(),
         3 => words[first + random.below(2)] = 0,
         4 => words[first..=second].fill(0),
         5 => words[first] = words[2 * other],
@@ -1001,14 +1112,16 @@ pub fn damage_table(random: &mut Random, words: &mut [u32], count: usize) {
             words.swap(first, 2 * other);
             words.swap(second, 2 * other + 1);
         }
-        _ => words[WORDS - 1 - random.below(2)] = 1 << random.below(32),
+        _ => words[SET_WORD - 1 - random.below(2)] = 1 << random.below(32),
     }
 }
 
 /// A table of pairs at random, mostly sound ones of few characters; never a compiled one by design.
 pub fn any_table(random: &mut Random, words: &mut [u32]) -> Vec<u32> {
     words.fill(0);
-    let characters: Vec<u32> = (0..random.between(1, 40)).map(|_| pool_character(random)).collect();
+    words[SET_WORD] = random.pick(&Set::ALL).number();
+    let size = random.between(1, 40);
+    let characters = pool(random, size);
     if random.percent(10) {
         words.iter_mut().for_each(|word| *word = random.word());
         return characters;
@@ -1213,7 +1326,7 @@ impl Maker<'_> {
         } else if escaped || self.random.percent(40) {
             bytes.extend(self.hex_escape(byte.into()).as_bytes());
         } else {
-            add_character(bytes, byte.into());
+            add_character(bytes, self.set.character(byte));
         }
     }
 
@@ -1255,7 +1368,7 @@ impl Maker<'_> {
     }
 
     fn add_old(&mut self, line: &[u8], only_accepted: bool) {
-        if self.byte_table.take_line(line).is_ok() || !only_accepted {
+        if self.byte_table.take_line(line, self.set).is_ok() || !only_accepted {
             self.put(line);
         }
     }
@@ -1321,12 +1434,11 @@ impl Maker<'_> {
                     bytes.extend(b"byte");
                     self.blanks(&mut bytes);
                 }
-                let bad: &[&str] = match self.random.below(4) {
-                    0 => &BAD_CHARACTERS,
-                    1 => &BAD_BYTES,
-                    _ => &NOT_OLD_BYTES,
-                };
-                bytes.extend(self.random.pick(bad).as_bytes());
+                match self.random.below(4) {
+                    0 => bytes.extend(self.random.pick(&BAD_CHARACTERS).as_bytes()),
+                    1 => self.write_bad_byte(&mut bytes),
+                    _ => bytes.extend(self.random.pick(&NOT_OLD_BYTES).as_bytes()),
+                }
                 self.blanks(&mut bytes);
                 self.write_dots(&mut bytes);
             }
@@ -1373,8 +1485,8 @@ impl Maker<'_> {
     }
 }
 
-/// A byte table's text.
-pub fn byte_text(random: &mut Random) -> Vec<u8> {
+/// A byte table's text, and the set that it is made for.
+pub fn byte_text(random: &mut Random) -> (Vec<u8>, Set) {
     let mode = random.below(100);
     let mut maker = Maker::new(random);
     let only_accepted = !(56..=60).contains(&mode);
@@ -1397,7 +1509,7 @@ pub fn byte_text(random: &mut Random) -> Vec<u8> {
         }
         _ => {}
     }
-    let mut bytes = maker.bytes;
+    let Maker { mut bytes, set, .. } = maker;
     finish(random, &mut bytes, mode > 85);
-    bytes
+    (bytes, set)
 }

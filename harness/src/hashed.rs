@@ -1,6 +1,6 @@
 //! The same answers by a HashMap from character to meaning, for the benchmark. Lines, rules and pairs are the reference's.
 
-use crate::reference::{self, Meaning, Meanings, Pairs, Refusal, Shown, Window, CELLS};
+use crate::reference::{self, Meaning, Meanings, Pairs, Refusal, Set, Shown, Window, CELLS};
 use std::collections::HashMap;
 
 struct Table {
@@ -31,22 +31,22 @@ impl Meanings for Table {
     }
 }
 
-/// A lent table by a map, and its pairs.
-fn check(words: &[u32]) -> Result<(Table, Pairs<'_>), Refusal> {
+/// A lent table by a map, its pairs and its set.
+fn check(words: &[u32]) -> Result<(Table, Pairs<'_>, Set), Refusal> {
     let mut table = Table::new();
-    let pairs = reference::check_by(words, |_, character, meaning| {
+    let (pairs, set) = reference::check_by(words, |_, character, meaning| {
         let admitted = table.find(character).is_none() && !table.loops(character, meaning);
         if admitted {
             table.insert(character, meaning);
         }
         admitted
     })?;
-    Ok((table, pairs))
+    Ok((table, pairs, set))
 }
 
-pub fn compile(edition: u32, text: &[u8], words: &mut [u32]) -> Result<u32, Refusal> {
+pub fn compile(edition: u32, set: u32, text: &[u8], words: &mut [u32]) -> Result<u32, Refusal> {
     let mut table = Table::new();
-    reference::compile_by(edition, text, words, |line, words, reading| {
+    reference::compile_by(edition, set, text, words, |line, words, reading| {
         let added = table.added(line, reading)?;
         if let Some(definition) = added {
             table.insert(definition.character, definition.meaning);
@@ -57,12 +57,14 @@ pub fn compile(edition: u32, text: &[u8], words: &mut [u32]) -> Result<u32, Refu
 }
 
 pub fn look_up(words: &[u32], character: u32) -> Result<Shown, Refusal> {
-    check(words)?.0.look_up(character)
+    let (table, _, set) = check(words)?;
+    table.look_up(character, set)
 }
 
 pub fn page(words: &[u32], characters: &[u32], cells: &mut [u8], rules: &mut [u8]) -> Result<(), Refusal> {
     reference::fits(characters, cells, rules)?;
-    check(words)?.0.fill(characters, cells, rules)
+    let (table, _, set) = check(words)?;
+    table.fill(characters, set, cells, rules)
 }
 
 pub fn windows(
@@ -72,13 +74,13 @@ pub fn windows(
     cells: &mut [u8],
     rules: &mut [u8],
 ) -> Result<(), Refusal> {
-    let (table, _) = check(words)?;
+    let (table, _, set) = check(words)?;
     reference::windows_fit(characters, windows, cells, rules)?;
-    table.fill_windows(characters, windows, cells, rules)
+    table.fill_windows(characters, windows, set, cells, rules)
 }
 
 pub fn typed(words: &[u32], cell: u8) -> Result<Option<u32>, Refusal> {
-    let (_, Pairs(pairs)) = check(words)?;
+    let (_, Pairs(pairs), _) = check(words)?;
     let typed = 1 << 24 | u32::from(cell);
     let pair = pairs.chunks_exact(2).find(|pair| pair[1] == typed);
     Ok(pair.map(|pair| pair[0]))

@@ -3,7 +3,10 @@
 use crate::reference::{Refusal, Shown, Window};
 use crate::{hashed, reference};
 
-pub type Compile = fn(u32, &[u8], &mut [u32]) -> Result<u32, Refusal>;
+/// By edition and set.
+pub type Compile = fn(u32, u32, &[u8], &mut [u32]) -> Result<u32, Refusal>;
+/// By set.
+pub type ByteCells = fn(u32, &[u8], &mut [u8]) -> Result<u32, Refusal>;
 pub type Page = fn(&[u32], &[u32], &mut [u8], &mut [u8]) -> Result<(), Refusal>;
 pub type Windows = fn(&[u32], &[u32], &[Window], &mut [u8], &mut [u8]) -> Result<(), Refusal>;
 
@@ -18,7 +21,7 @@ pub struct Side {
     pub entries: fn(&[u32], &mut [u32]) -> Result<(), Refusal>,
     pub attribute_cell: fn(&[u8], u8) -> Result<u8, Refusal>,
     pub attribute_cells: fn(&[u8], &mut [u8]) -> Result<u32, Refusal>,
-    pub byte_cells: fn(&[u8], &mut [u8]) -> Result<u32, Refusal>,
+    pub byte_cells: ByteCells,
 }
 
 impl Side {

@@ -1,11 +1,12 @@
-//! The library against the reference on random texts, tables, pages and windows, in every edition: answers and lent memory,
-//! byte by byte.
+//! The library against the reference on random texts, tables, pages and windows, in every edition and character set: answers
+//! and lent memory, byte by byte.
 //! HEATHDAPPLE_SEED names another seed.
 
 use harness::generate;
 use harness::random::Random;
 use harness::reference::{
-    self, Refusal, Window, BYTE_EDITION, CELLS, CONDITIONS, PAIRS, TEXT_BYTES, TEXT_EDITION, WORDS,
+    self, Meanings, Pairs, Refusal, Row, Set, Shown, Window, BYTE_EDITION, CELLS, CONDITIONS, DIFFERENCES, PAIRS,
+    SET_WORD, TEXT_BYTES, TEXT_EDITION, WORDS,
 };
 use harness::side::{Side, HASHED, LIBRARY, REFERENCE};
 use std::collections::BTreeSet;
@@ -24,6 +25,7 @@ const TABLES_FOR_WINDOWS: u64 = 30_000;
 const ATTRIBUTES_TEXTS: u64 = 25_000;
 const BYTE_TEXTS: u64 = 50_000;
 const TEXTS_FOR_EDITIONS: u64 = 4_000;
+const GROWING_TEXTS: u64 = 20_000;
 const LEAST: u64 = 100;
 /// The least of what is met around a column, and the least columns of a number.
 const FEW: u64 = 10;
@@ -32,7 +34,7 @@ const SEVERAL: usize = 3;
 const ENOUGH: u64 = 10;
 const GUARD: usize = 16;
 /// The highest number of a refusal.
-const REFUSALS: usize = 20;
+const REFUSALS: usize = 21;
 /// The refusals with a column that a text table, an attributes table and a byte table can have.
 const WITH_COLUMN: [&[usize]; 3] =
     [&[3, 4, 5, 6, 7, 8, 9, 10, 11, 12, 13, 17], &[3, 4, 5, 6, 8, 9, 11, 16], &[3, 4, 6, 7, 8, 9, 11, 16]];
@@ -45,10 +47,11 @@ const RULES: [usize; 15] = [1, 3, 4, 5, 6, 7, 8, 9, 19, 20, 21, 22, 23, 24, 25];
 const LENGTHS: [usize; 4] = [0, 255, 256, 300];
 
 /// Lengths of a slice of words, which an edition other than that of text tables does not look at.
-const WORD_LENGTHS: [usize; 4] = [0, WORDS - 1, WORDS, WORDS + 2];
+const WORD_LENGTHS: [usize; 7] = [0, SET_WORD - 1, SET_WORD, SET_WORD + 1, WORDS, WORDS + 1, WORDS + 2];
 
-/// Editions that there are not.
+/// Editions and sets that there are not, also such as are 1 or 2 in fewer bits.
 const OTHER_EDITIONS: [u32; 4] = [0, 3, 4, u32::MAX];
+const OTHER_SETS: [u32; 8] = [0, 3, 4, 0x101, 0x102, 0x1_0001, 0x8000_0002, u32::MAX];
 
 /// Lines of which every five are put together, so every four and fewer too.
 const BLOCK_LINES: [&str; 13] = [
@@ -187,14 +190,14 @@ fn column_meets(line: &[u8], column: usize) -> [(&'static str, bool); COLUMN_MEE
 }
 
 /// Which of these each number is to be met with. `else` and `endIf` stand first on their line; in an attributes table only
-/// a bad sequence has characters of several bytes before it, in a byte table also what follows a byte, of two bytes at most.
+/// a bad sequence has characters of several bytes before it, in a byte table also what follows a byte, of three bytes at most.
 fn columns_due(table: usize, number: usize) -> &'static [usize] {
     match (table, number) {
         (TEXT_TABLE, 6) => &[0, 1, 2, 3, 4, 5, 6, 7],
         (TEXT_TABLE, 4..=13) => &[0, 1, 2, 3, 4],
         (ATTRIBUTES_TABLE | BYTE_TABLE, 4) => &[0, 1, 2, 3],
-        (BYTE_TABLE, 6) => &[0, 1, 5, 6, 7],
-        (BYTE_TABLE, 8 | 9) => &[0, 1],
+        (BYTE_TABLE, 6) => &[0, 1, 2, 5, 6, 7],
+        (BYTE_TABLE, 8 | 9) => &[0, 1, 2],
         _ => &[0],
     }
 }
@@ -253,7 +256,7 @@ fn bytes_meet(text: &[u8], answer: Result<u32, Refusal>) -> [(&'static str, bool
         ("  a byte without the word", byte(&|first, byte| first == byte)),
         ("  a byte as #", byte(&|_, byte| byte == b"#")),
         ("  a byte as CR", byte(&|_, byte| byte == b"\r")),
-        ("  a byte in two bytes of UTF-8", byte(&|_, byte| byte[0] >= 0x80)),
+        ("  a byte in two or three bytes of UTF-8", byte(&|_, byte| byte[0] >= 0x80)),
         ("  a byte as \\\\", byte(&|_, byte| byte == b"\\\\")),
         ("  a byte by \\x", byte(&|_, byte| byte.starts_with(b"\\x"))),
         ("  a byte by \\X", byte(&|_, byte| byte.starts_with(b"\\X"))),
@@ -269,6 +272,151 @@ fn bytes_meet(text: &[u8], answer: Result<u32, Refusal>) -> [(&'static str, bool
         ("  without the word", number == 11 && faulty.len() == 2),
     ]
 }
+
+/// The number that a word of a text table stands for, and whether it is an escape.
+fn number_of(word: &[u8]) -> Option<(u32, bool)> {
+    let word = std::str::from_utf8(word).ok()?;
+    reference::character(word, true).map(|number| (number, word.starts_with('\\')))
+}
+
+/// Whether a number is a byte in which the sets differ.
+fn differs(number: u32) -> bool {
+    u8::try_from(number).is_ok_and(|byte| DIFFERENCES.contains(&byte))
+}
+
+/// Whether a character is the private-row one of such a byte.
+fn differs_in_private_row(character: u32) -> bool {
+    character.checked_sub(0xF000).is_some_and(differs)
+}
+
+/// The word behind the first of some words.
+fn behind<'a>(words: &[&'a [u8]], names: &[&str]) -> Option<&'a [u8]> {
+    let name = words.iter().position(|word| names.iter().any(|name| name.as_bytes() == *word))?;
+    words.get(name + 1).copied()
+}
+
+/// The byte operand of a line of a text table or of a byte table.
+fn byte_operand<'a>(table: usize, words: &[&'a [u8]]) -> Option<&'a [u8]> {
+    match table {
+        BYTE_TABLE => operand(words).filter(|_| !of_dot(words)),
+        _ => behind(words, &["byte"]),
+    }
+}
+
+/// What a text may meet of the bytes in which the sets differ.
+const SETS_MEET: usize = 8;
+
+fn sets_meet(table: usize, set: Set, text: &[u8], answer: Result<u32, Refusal>) -> [(&'static str, bool); SETS_MEET] {
+    let lines: Vec<Vec<&[u8]>> = reference::lines(text).map(words_of).collect();
+    let number = answer.map_or_else(|refusal| refusal.number, |_| 0);
+    let faulty = answer.err().and_then(|refusal| lines.get((refusal.place as usize).checked_sub(1)?));
+    let byte = |words: &Vec<&[u8]>| byte_operand(table, words).and_then(number_of);
+    let accepted = answer.is_ok();
+    let some = |holds: &dyn Fn(&Vec<&[u8]>) -> bool| accepted && lines.iter().any(holds);
+    let character = |words: &Vec<&[u8]>, names: &[&str]| behind(words, names).and_then(number_of);
+    let second = |number: u32| number > 0xFF && Set::Iso8859_15.byte(number).is_some();
+    let refused =
+        |by: u32, holds: &dyn Fn((u32, bool)) -> bool| number == by && faulty.and_then(byte).is_some_and(holds);
+    let own = |(number, escape): (u32, bool)| match escape {
+        true => differs(number),
+        false => set.byte(number).is_some_and(|byte| differs(byte.into())),
+    };
+    [
+        ("accepted", accepted),
+        ("  a byte by an escape", some(&|words| byte(words).is_some_and(|word| word.1 && own(word)))),
+        ("  a byte as its character", some(&|words| byte(words).is_some_and(|word| !word.1 && own(word)))),
+        (
+            "  the same escape for a character",
+            some(&|words| {
+                let names = ["char", "glyph", "alias", "ifGlyph", "ifNotGlyph"];
+                character(words, &names).is_some_and(|(number, escape)| escape && differs(number))
+            }),
+        ),
+        (
+            "  a condition on the private row",
+            some(&|words| {
+                let condition = character(words, &["ifGlyph", "ifNotGlyph"]);
+                condition.is_some_and(|(number, _)| differs_in_private_row(number))
+            }),
+        ),
+        (
+            "refusal 7 for a character of the other set",
+            refused(7, &|(number, escape)| !escape && (differs(number) || second(number))),
+        ),
+        ("refusal 7 for an escape over FF", refused(7, &|(number, escape)| escape && second(number))),
+        ("refusal 11 for a byte", refused(11, &own)),
+    ]
+}
+
+/// Which of these a table is to be met with.
+fn sets_due(table: usize) -> &'static [usize] {
+    match table {
+        BYTE_TABLE => &[0, 1, 2, 5, 6, 7],
+        _ => &[0, 1, 2, 3, 4, 5, 6, 7],
+    }
+}
+
+/// What a call on a lent table may meet of its length and its last two words.
+const LENT_MEET: usize = 11;
+
+fn lent_meet(words: &[u32], refusal: Option<Refusal>) -> [(&'static str, bool); LENT_MEET] {
+    let (number, place) = refusal.map_or((0, 0), |refusal| (refusal.number, refusal.place as usize));
+    let last = words.get(SET_WORD..WORDS).unwrap_or(&[0, 0]);
+    let (set, zero) = (Set::new(last[0]), last[1] == 0);
+    let (before, at_last) = (number == 15 && place < PAIRS, number == 15 && place == PAIRS);
+    [
+        ("refusal 2 for 2,048 words", number == 2 && words.len() == SET_WORD),
+        ("refusal 2 for 2,049 words", number == 2 && words.len() == SET_WORD + 1),
+        ("refusal 15 at pair 1,024", at_last),
+        ("  no set, but zero", at_last && last == [0, 0]),
+        ("  no set, but another number", at_last && last[0] != 0 && set.is_none() && zero),
+        ("  a set, but no zero behind it", at_last && set.is_some()),
+        ("  neither", at_last && set.is_none() && !zero),
+        ("refusal 15 before it, no set too", before && set.is_none()),
+        ("refusal 15 before it, no zero too", before && !zero),
+        ("accepted in ISO 8859-1", number == 0 && set == Some(Set::Iso8859_1)),
+        ("accepted in ISO 8859-15", number == 0 && set == Some(Set::Iso8859_15)),
+    ]
+}
+
+/// What the lookup of a character on a table and on a grown one may meet.
+const GROWTH_MEETS: usize = 5;
+
+fn growth_meets(character: u32, first: Shown, grown: Shown) -> [(&'static str, bool); GROWTH_MEETS] {
+    let fell = grown.rule < first.rule;
+    [
+        ("lookups", true),
+        ("  the same answer", first == grown),
+        ("  other links", first.links != grown.links),
+        ("  a lower rule", fell),
+        ("    on the private row, where the sets differ", fell && differs_in_private_row(character)),
+    ]
+}
+
+/// Lines of text tables about a byte in which the sets differ, in every form of its characters.
+fn lines_about(byte: u8) -> Vec<String> {
+    let [first, second] = Set::ALL.map(|set| set.character(byte));
+    let private = 0xF000 + u32::from(byte);
+    let raw = |character: u32| char::from_u32(character).expect("a scalar").to_string();
+    let operands = [
+        raw(first),
+        raw(second),
+        raw(private),
+        format!("\\x{byte:02X}"),
+        format!("\\X{byte:02x}"),
+        format!("\\o{byte:03o}"),
+        format!("\\u{second:04X}"),
+        format!("\\U{private:08x}"),
+    ];
+    let forms = [
+        "char _ 1", "glyph _ 2", "byte _ 3", "alias _ z", "alias z _", "ifGlyph _ char b 4", "ifNotGlyph _ char b 5",
+        "_ 6", "byte _",
+    ];
+    forms.iter().flat_map(|form| operands.iter().map(|operand| form.replace('_', operand) + "\n")).collect()
+}
+
+/// How many lines these are.
+const LINES_ABOUT: usize = 72;
 
 /// The columns of a number's refusals.
 #[derive(Clone, Default)]
@@ -311,6 +459,11 @@ struct Run {
     columns: [[Columns; REFUSALS + 1]; WITH_COLUMN.len()],
     bytes_met: [(&'static str, u64); BYTES_MEET],
     windows_met: [(&'static str, u64); WINDOWS_MEET],
+    /// By table and by set.
+    sets_met: [[[(&'static str, u64); SETS_MEET]; 2]; WITH_COLUMN.len()],
+    lent_met: [(&'static str, u64); LENT_MEET],
+    /// By set.
+    growth_met: [[(&'static str, u64); GROWTH_MEETS]; 2],
     /// Page calls beside accepted windows calls.
     pages_beside: u64,
     rules: [u64; 32],
@@ -505,8 +658,12 @@ impl Run {
         (answer, expected[inside].to_vec())
     }
 
-    /// Compiles by an edition into `length` words; answers the answer and them.
-    fn compile_by(&mut self, edition: u32, text: &[u8], length: usize) -> (Result<u32, Refusal>, Vec<u32>) {
+    fn any_set(&mut self) -> Set {
+        *self.random.pick(&Set::ALL)
+    }
+
+    /// Compiles by an edition in a set into `length` words; answers the answer and them.
+    fn compile_by(&mut self, edition: u32, set: u32, text: &[u8], length: usize) -> (Result<u32, Refusal>, Vec<u32>) {
         let name = match edition {
             TEXT_EDITION => COMPILE,
             BYTE_EDITION => COMPILE_BYTES,
@@ -515,73 +672,95 @@ impl Run {
         let before = self.random_words(length + 2 * GUARD);
         let (bytes, start) = self.place_bytes(text);
         let text = &bytes[start..start + text.len()];
-        let call = |side: &Side, words: &mut [u32]| (side.compile)(edition, text, words);
+        let call = |side: &Side, words: &mut [u32]| (side.compile)(edition, set, text, words);
         self.filling(name, &before, call, |side| {
             let compiled = |side: &Side, text: &[u8]| {
                 let mut words = before[GUARD..GUARD + length].to_vec();
-                ((side.compile)(edition, text, &mut words), words)
+                ((side.compile)(edition, set, text, &mut words), words)
             };
-            format!("edition {edition}, {}", differing(text, side, compiled))
+            format!("edition {edition}, set {set}, {}", differing(text, side, compiled))
         })
     }
 
-    /// Compiles a text table into `length` words; answers them and the count.
-    fn compile(&mut self, text: &[u8], length: usize) -> (Vec<u32>, Option<usize>) {
-        let (answer, words) = self.compile_by(TEXT_EDITION, text, length);
-        self.tally_column(TEXT_TABLE, text, &answer);
+    /// Compiles a text table in a set into `length` words; answers them and the count.
+    fn compile(&mut self, set: Set, text: &[u8], length: usize) -> (Vec<u32>, Option<usize>) {
+        let (answer, words) = self.compile_by(TEXT_EDITION, set.number(), text, length);
+        self.tally_text(TEXT_TABLE, set, text, answer);
         (words, answer.ok().map(|count| count as usize))
     }
 
-    /// A byte table compiled beside `words` words.
-    fn compile_bytes(&mut self, text: &[u8], words: usize) {
-        let (answer, _) = self.compile_by(BYTE_EDITION, text, words);
-        self.tally_column(BYTE_TABLE, text, &answer);
+    /// A byte table compiled in a set beside `words` words.
+    fn compile_bytes(&mut self, set: Set, text: &[u8], words: usize) {
+        let (answer, _) = self.compile_by(BYTE_EDITION, set.number(), text, words);
+        self.tally_text(BYTE_TABLE, set, text, answer);
         count_met(&mut self.bytes_met, bytes_meet(text, answer));
     }
 
+    /// Counts what a text in a set met.
+    fn tally_text(&mut self, table: usize, set: Set, text: &[u8], answer: Result<u32, Refusal>) {
+        self.tally_column(table, text, &answer);
+        let met = &mut self.sets_met[table][set as usize];
+        count_met(met, sets_meet(table, set, text, answer));
+    }
+
     /// The cells of a byte table in a buffer of that length.
-    fn byte_cells(&mut self, text: &[u8], length: usize) {
+    fn byte_cells(&mut self, set: u32, text: &[u8], length: usize) {
         let before = self.random_bytes(length + 2 * GUARD);
         let (placed, start) = self.place_bytes(text);
         let text = &placed[start..start + text.len()];
-        let call = |side: &Side, cells: &mut [u8]| (side.byte_cells)(text, cells);
+        let call = |side: &Side, cells: &mut [u8]| (side.byte_cells)(set, text, cells);
         let _ = self.filling(BYTE_CELLS, &before, call, |side| {
-            differing(text, side, |side, text| {
+            let cells = |side: &Side, text: &[u8]| {
                 let mut cells = before[GUARD..GUARD + length].to_vec();
-                ((side.byte_cells)(text, &mut cells), cells)
-            })
+                ((side.byte_cells)(set, text, &mut cells), cells)
+            };
+            format!("set {set}, {}", differing(text, side, cells))
         });
     }
 
     /// A byte table with words and cells of any length.
-    fn byte_table(&mut self, text: &[u8]) {
+    fn byte_table(&mut self, set: Set, text: &[u8]) {
         let words = *self.random.pick(&WORD_LENGTHS);
-        self.compile_bytes(text, words);
+        self.compile_bytes(set, text, words);
         // A buffer that is too short tells nothing of the text.
         let cells = *self.random.pick(&[CELLS, CELLS, CELLS, LENGTHS[3], LENGTHS[1]]);
-        self.byte_cells(text, cells);
+        self.byte_cells(set.number(), text, cells);
     }
 
     /// A byte table with words and cells of each length.
-    fn byte_table_all(&mut self, text: &[u8]) {
+    fn byte_table_all(&mut self, set: Set, text: &[u8]) {
         for length in WORD_LENGTHS {
-            self.compile_bytes(text, length);
+            self.compile_bytes(set, text, length);
         }
         for length in LENGTHS {
-            self.byte_cells(text, length);
+            self.byte_cells(set.number(), text, length);
         }
     }
 
-    /// A text of any kind in every edition, with words of each length.
+    /// A text of any kind in every edition and every set, with words of each length where there is such an edition and set.
     fn editions(&mut self, text: &[u8]) {
         let any = self.random.word();
-        for length in WORD_LENGTHS {
-            for edition in OTHER_EDITIONS.into_iter().chain([any]) {
-                let _ = self.compile_by(edition, text, length);
+        let sets = OTHER_SETS.into_iter().chain([any]);
+        for edition in OTHER_EDITIONS.into_iter().chain([any, BYTE_EDITION, TEXT_EDITION]) {
+            for set in sets.clone().chain(Set::ALL.map(Set::number)) {
+                let known = [BYTE_EDITION, TEXT_EDITION].contains(&edition) && Set::new(set).is_some();
+                if !known {
+                    let length = *self.random.pick(&WORD_LENGTHS);
+                    let _ = self.compile_by(edition, set, text, length);
+                }
             }
-            self.compile(text, length);
         }
-        self.byte_table_all(text);
+        for length in LENGTHS {
+            for set in sets.clone() {
+                self.byte_cells(set, text, length);
+            }
+        }
+        for set in Set::ALL {
+            for length in WORD_LENGTHS {
+                self.compile(set, text, length);
+            }
+            self.byte_table_all(set, text);
+        }
     }
 
     /// A call for all 256 cells or bytes in buffers of several lengths, and beside the 256 single calls of each side.
@@ -618,30 +797,48 @@ impl Run {
     }
 
     fn table_shown(words: &[u32]) -> String {
-        let used = words.len().min(WORDS) - words.iter().take(WORDS).rev().take_while(|word| **word == 0).count();
+        let pairs = &words[..words.len().min(SET_WORD)];
+        let used = pairs.len() - pairs.iter().rev().take_while(|word| **word == 0).count();
         let shown = &words[..used.min(80)];
-        format!("table of {} words, {used} to the last that is not 0: {shown:X?}", words.len())
+        let last = words.get(SET_WORD..words.len().min(WORDS)).unwrap_or(&[]);
+        format!("table of {} words, {used} to the last that is not 0: {shown:X?}, set and zero {last:X?}", words.len())
     }
 
-    fn look_up(&mut self, words: &[u32], character: u32) {
+    /// Counts what a call met of a lent table.
+    fn tally_lent<T>(&mut self, words: &[u32], answer: Result<T, Refusal>) {
+        count_met(&mut self.lent_met, lent_meet(words, answer.err()));
+    }
+
+    fn look_up(&mut self, words: &[u32], character: u32) -> Result<Shown, Refusal> {
         let input = |_: &Side| format!("character {character:X}, {}", Self::table_shown(words));
         let answer = self.asking(LOOK_UP, |side| (side.look_up)(words, character), input);
+        self.tally_lent(words, answer);
         if let Ok(shown) = answer {
             self.rules[usize::from(shown.rule)] += 1;
             self.links = self.links.max(shown.links);
         }
+        answer
     }
 
     fn typed(&mut self, words: &[u32], cell: u8) {
         let input = |_: &Side| format!("cell {cell:02X}, {}", Self::table_shown(words));
-        let _ = self.asking(TYPED, |side| (side.typed)(words, cell), input);
+        let answer = self.asking(TYPED, |side| (side.typed)(words, cell), input);
+        self.tally_lent(words, answer);
     }
 
-    fn entries(&mut self, words: &[u32]) {
-        let length = *self.random.pick(&LENGTHS);
+    /// What all cells type, in that many elements.
+    fn entries(&mut self, words: &[u32], length: usize) -> Vec<u32> {
         let before = self.random_words(length + 2 * GUARD);
         let call = |side: &Side, entries: &mut [u32]| (side.entries)(words, entries);
-        let _ = self.filling(ENTRIES, &before, call, |_| Self::table_shown(words));
+        let (answer, entries) = self.filling(ENTRIES, &before, call, |_| Self::table_shown(words));
+        self.tally_lent(words, answer);
+        entries
+    }
+
+    /// What all cells type, in any number of elements.
+    fn any_entries(&mut self, words: &[u32]) {
+        let length = *self.random.pick(&LENGTHS);
+        self.entries(words, length);
     }
 
     fn typed_all(&mut self, words: &[u32]) {
@@ -695,6 +892,7 @@ impl Run {
         let fill = |side: &Side, cells: &mut [u8], rules: &mut [u8]| (side.page)(words, characters, cells, rules);
         let input = || format!("characters {characters:X?}, {}", Self::table_shown(words));
         let (_, (answer, after)) = self.showing(PAGE, [cells, rules], &fill, &input);
+        self.tally_lent(words, answer);
         if answer.is_ok() {
             for rule in &after.0[1][GUARD..GUARD + characters.len()] {
                 self.rules[usize::from(*rule)] += 1;
@@ -711,6 +909,7 @@ impl Run {
         };
         let input = || format!("windows {windows:X?}, characters {characters:X?}, {}", Self::table_shown(words));
         let (before, expected) = self.showing(WINDOWS, lengths, &at_once, &input);
+        self.tally_lent(words, expected.0);
         if expected.0.is_ok() {
             self.fill_as(PAGE, &before, &one_by_one, &expected, &|| format!("beside a windows call, {}", input()));
             self.pages_beside += windows.len() as u64;
@@ -778,27 +977,27 @@ impl Run {
             5 | 6 => self.any_windows(words, alphabet),
             7 | 8 => {
                 let character = generate::query(&mut self.random, alphabet);
-                self.look_up(words, character);
+                let _ = self.look_up(words, character);
             }
             _ => {
                 let cell = self.random.byte();
                 self.typed(words, cell);
-                self.entries(words);
+                self.any_entries(words);
             }
         }
     }
 
     fn length_of_slice(&mut self) -> usize {
         match self.random.below(10) {
-            0 => 2049,
-            1 => 2050,
+            0 => WORDS + 1,
+            1 => WORDS + 2,
             2 => WORDS + self.random.below(200),
             _ => WORDS,
         }
     }
 
     fn short_length(&mut self) -> usize {
-        *self.random.pick(&[0, 1, 2, 1024, 2046, 2047, 2047, 2047])
+        *self.random.pick(&[0, 1, 1024, 2046, 2047, 2048, 2049, 2049])
     }
 
     /// A line of `count` words, those of the case, with any blanks; without its end.
@@ -821,7 +1020,7 @@ impl Run {
     /// Everything on one text.
     fn text(&mut self, text: &generate::Text, lookups: usize, all_cells: bool, damaged: usize) {
         let length = self.length_of_slice();
-        let (words, count) = self.compile(&text.bytes, length);
+        let (words, count) = self.compile(text.set, &text.bytes, length);
         self.texts.count(count.is_some());
         if text.depth > 0 {
             self.with_blocks.count(count.is_some());
@@ -831,7 +1030,12 @@ impl Run {
         }
         if self.random.percent(4) {
             let length = self.short_length();
-            self.compile(&text.bytes, length);
+            self.compile(text.set, &text.bytes, length);
+        }
+        if self.random.percent(20) {
+            // Made for one set, read in either.
+            let set = self.any_set();
+            self.compile(set, &text.bytes, WORDS);
         }
         let Some(count) = count else {
             return;
@@ -839,7 +1043,7 @@ impl Run {
         let kept = words.clone();
         for _ in 0..lookups {
             let character = generate::query(&mut self.random, &text.alphabet);
-            self.look_up(&words, character);
+            let _ = self.look_up(&words, character);
         }
         self.any_page(&words, &text.alphabet);
         for _ in 0..2 {
@@ -853,7 +1057,7 @@ impl Run {
                 _ => words[2 * self.random.below(count) + 1] as u8,
             };
             self.typed(&words, cell);
-            self.entries(&words);
+            self.any_entries(&words);
         }
         if self.random.percent(4) {
             let length = self.short_length();
@@ -866,6 +1070,78 @@ impl Run {
             let mut words = words.clone();
             generate::damage_table(&mut self.random, &mut words, count);
             self.lent(&words, &text.alphabet);
+        }
+    }
+
+    /// A text and its first part of that length: by the lines behind that part no character gets a higher rule, or another
+    /// cell by the same rule; none gets another answer without a line for a character that its lookup goes by; and a cell
+    /// goes on typing what it typed.
+    fn growth(&mut self, text: &generate::Text, first: usize) {
+        let set = text.set;
+        let (words, count) = self.compile(set, &text.bytes[..first], WORDS);
+        let (grown_words, grown_count) = self.compile(set, &text.bytes, WORDS);
+        let (Some(count), Some(grown_count)) = (count, grown_count) else {
+            return;
+        };
+        let added: Vec<u32> = grown_words[2 * count..2 * grown_count].iter().step_by(2).copied().collect();
+        let side = self.sides[0];
+        let input = || format!("the first {first} bytes of \"{}\" in set {}", shown(&text.bytes), set.number());
+        for _ in 0..16 {
+            let character = generate::query(&mut self.random, &text.alphabet);
+            let answers = (self.look_up(&words, character), self.look_up(&grown_words, character));
+            let (Ok(before), Ok(after)) = answers else {
+                continue;
+            };
+            let local = match reference::row(character, set) {
+                Row::Private(local) => local,
+                Row::Braille(_) | Row::Other(_) => character,
+            };
+            let end = Pairs(&words[..2 * count]).walk(local).end;
+            let asked = [reference::base(local), reference::stand_in(local)].into_iter().flatten();
+            let touched = asked.chain([local, end, 0xFFFD, '?' as u32]).any(|asked| added.contains(&asked));
+            let spoiled = after.rule > before.rule || after.rule == before.rule && after.cell != before.cell;
+            if spoiled || !touched && after != before {
+                self.differ(&side, LOOK_UP, before, after, || format!("growth, {character:X}, {}", input()));
+            }
+            let met = growth_meets(character, before, after);
+            count_met(&mut self.growth_met[set as usize], met);
+        }
+        let [before, after] = [&words, &grown_words].map(|words| self.entries(words, CELLS));
+        if before.iter().zip(&after).any(|(before, after)| *before != 0 && before != after) {
+            self.differ(&side, ENTRIES, before, after, || format!("growth, {}", input()));
+        }
+    }
+
+    /// Two lines about a byte in which the sets differ, in both sets and editions, and the characters around it.
+    fn two_lines(&mut self, byte: u8, text: &str) {
+        let [first, second] = Set::ALL.map(|set| set.character(byte));
+        let page = [first, second, 0xF000 + first, 0xF000 + first - 1, second + 1, 'b' as u32, 'z' as u32];
+        for set in Set::ALL {
+            self.byte_table(set, text.as_bytes());
+            let (words, count) = self.compile(set, text.as_bytes(), WORDS);
+            if count.is_some() {
+                for character in page {
+                    let _ = self.look_up(&words, character);
+                }
+                self.page(&words, &page, page.len(), page.len());
+                self.entries(&words, CELLS);
+            }
+        }
+    }
+
+    /// A table of each length around that of a table, with these two words last.
+    fn last_words(&mut self, pairs: &[u32], last: [u32; 2]) {
+        let mut words = pairs.to_vec();
+        words.resize(SET_WORD, 0);
+        words.extend(last);
+        words.extend(self.random_words(2));
+        for length in SET_WORD - 1..=words.len() {
+            let words = &words[..length];
+            let _ = self.look_up(words, 0xF0A4);
+            self.typed(words, 1);
+            self.entries(words, CELLS);
+            self.page(words, &[0xF0BE, 0xD800], 2, 2);
+            self.windows(words, &[0xF0A4, 0x20AC, 0xA4], &[Window { start: 0, width: 3 }], [3, 3]);
         }
     }
 
@@ -926,6 +1202,9 @@ fn main() {
         columns: Default::default(),
         bytes_met: [("", 0); BYTES_MEET],
         windows_met: [("", 0); WINDOWS_MEET],
+        sets_met: [[[("", 0); SETS_MEET]; 2]; WITH_COLUMN.len()],
+        lent_met: [("", 0); LENT_MEET],
+        growth_met: [[("", 0); GROWTH_MEETS]; 2],
         pages_beside: 0,
         rules: [0; 32],
         links: 0,
@@ -972,9 +1251,10 @@ fn main() {
     part("long chains", 5, LONG_CHAINS, &|run, case| {
         let links = if case == 0 { PAIRS - 1 } else { 400 };
         let text = generate::backward_chain_text(links);
-        let (words, count) = run.compile(text.as_bytes(), WORDS);
+        let set = run.any_set();
+        let (words, count) = run.compile(set, text.as_bytes(), WORDS);
         assert_eq!(count, Some(links + 1));
-        run.look_up(&words, 0x400);
+        let _ = run.look_up(&words, 0x400);
         run.page(&words, &[0x400, 0xF041, 0x401], 3, 3);
         run.windows(
             &words,
@@ -982,11 +1262,14 @@ fn main() {
             &[Window { start: 2, width: 1 }, Window { start: 0, width: 3 }],
             [4, 4],
         );
-        run.compile(format!("{text}alias \\u0400 a\n").as_bytes(), WORDS);
+        run.compile(set, format!("{text}alias \\u0400 a\n").as_bytes(), WORDS);
     });
     part("tables", 6, TABLES, &|run, case| {
         let mut words = vec![0; run.length_of_slice()];
         let alphabet = generate::any_table(&mut run.random, &mut words[..WORDS]);
+        if run.random.percent(15) {
+            generate::damage_set(&mut run.random, &mut words);
+        }
         for _ in 0..2 {
             run.lent(&words, &alphabet);
         }
@@ -1013,9 +1296,10 @@ fn main() {
         let case = case as usize;
         let windows: Vec<Window> =
             [case % SMALL_WINDOWS, case / SMALL_WINDOWS].into_iter().filter_map(small_window).collect();
-        let (sound, _) = run.compile(b"char a 1\nchar b 12\n", WORDS);
+        let set = run.any_set();
+        let (sound, _) = run.compile(set, b"char a 1\nchar b 12\n", WORDS);
         let mut broken = sound.clone();
-        broken[3] = 0;
+        broken[*run.random.pick(&[3, SET_WORD])] = 0;
         // Pages of up to three characters, each shown by its own cell and rule or no scalar.
         for length in 0..=3 {
             for damaged in 0..1 << length {
@@ -1038,11 +1322,13 @@ fn main() {
             text += BLOCK_LINES[rest % BLOCK_LINES.len()];
             rest /= BLOCK_LINES.len();
         }
-        run.compile(text.as_bytes(), WORDS);
+        let set = run.any_set();
+        run.compile(set, text.as_bytes(), WORDS);
     });
     part("any five words", 14, (LINE_WORDS.len() as u64).pow(5), &|run, case| {
         let text = BEFORE_WORDS.to_string() + &run.line(&LINE_WORDS, 5, case) + run.line_end();
-        run.compile(text.as_bytes(), WORDS);
+        let set = run.any_set();
+        run.compile(set, text.as_bytes(), WORDS);
     });
     part("any four words", 15, (ATTRIBUTES_WORDS.len() as u64).pow(4), &|run, case| {
         let text = BEFORE_ATTRIBUTES_WORDS.to_string() + &run.line(&ATTRIBUTES_WORDS, 4, case) + run.line_end();
@@ -1054,18 +1340,20 @@ fn main() {
         let few = case < (BYTE_WORDS.len() as u64).pow(3);
         let ends = if few { LINE_ENDS.to_vec() } else { vec![run.line_end()] };
         for end in ends {
-            run.byte_table((line.clone() + end).as_bytes());
+            let set = run.any_set();
+            run.byte_table(set, (line.clone() + end).as_bytes());
         }
     });
     part("any two bytes", 8, 1 << 16, &|run, case| {
         let two = [(case >> 8) as u8, case as u8];
-        run.compile(&[b"char ", two.as_slice(), b" 1"].concat(), WORDS);
-        run.compile(&[b"ifNotGlyph a char a ", two.as_slice()].concat(), WORDS);
+        let set = run.any_set();
+        run.compile(set, &[b"char ", two.as_slice(), b" 1"].concat(), WORDS);
+        run.compile(set, &[b"ifNotGlyph a char a ", two.as_slice()].concat(), WORDS);
         for front in ["", "byte ", "\\", "byte \\x", "\\X"] {
-            run.byte_table(&[front.as_bytes(), two.as_slice(), b" 1"].concat());
+            run.byte_table(set, &[front.as_bytes(), two.as_slice(), b" 1"].concat());
         }
         for front in ["a ", "dot ", "dot 1 o"] {
-            run.byte_table(&[front.as_bytes(), two.as_slice()].concat());
+            run.byte_table(set, &[front.as_bytes(), two.as_slice()].concat());
         }
     });
     part("UTF-8 sequences", 9, 64 * 1000, &|run, case| {
@@ -1075,28 +1363,31 @@ fn main() {
         let kept = 1 + run.random.below(4);
         let front = *run.random.pick(&["#", "# é", "#€", "#𝄞", "#é€𝄞"]);
         let comment = [front.as_bytes(), &sequence[..kept]].concat();
-        run.compile(&comment, WORDS);
-        run.compile(&[b"glyph ", sequence.as_slice(), b" 1"].concat(), WORDS);
-        run.byte_table(&comment);
-        run.byte_table(&[sequence.as_slice(), b" 1"].concat());
+        let set = run.any_set();
+        run.compile(set, &comment, WORDS);
+        run.compile(set, &[b"glyph ", sequence.as_slice(), b" 1"].concat(), WORDS);
+        run.byte_table(set, &comment);
+        run.byte_table(set, &[sequence.as_slice(), b" 1"].concat());
     });
-    part("every character", 10, 3, &|run, case| {
+    part("every character", 10, 8, &|run, case| {
         let texts = [
             "",
             "char A 1\nchar C 2\nchar E 3\nchar I 4\nchar N 5\nchar O 6\nchar U 7\nchar Y 8\nchar a 12\nchar c 13\nchar e 14\n\
              char i 15\nchar n 16\nchar o 17\nchar u 18\nchar y 23\nchar x 24\nchar s 25\nchar \\s 26\nchar - 27\nchar ' 28\n\
-             char \" 34\nchar \\uFFFD 35\nchar ? 36\nalias \\u00E4 \\uF041\nglyph \\u2801 37\n",
+             char \" 34\nchar \\uFFFD 35\nchar ? 36\nalias \\u00E4 \\uF041\nglyph \\u2801 37\nchar S 38\nchar Z 45\nchar z 46\n",
             "char ? 1\nglyph \\uF041 2\nglyph A 3\nalias \\u2801 A\nalias \\uF042 A\nalias B \\uF041\nalias a \\u0301\n",
+            "byte \\xA4 1\nbyte \\xA6 2\nglyph \\xA8 3\nglyph š 4\nalias \\xB4 ž\nalias ž Œ\nchar Œ 5\nchar \\xBD 6\nbyte \\o276 7\n",
         ];
-        let (words, count) = run.compile(texts[case as usize].as_bytes(), WORDS);
+        let set = Set::ALL[case as usize / texts.len()];
+        let (words, count) = run.compile(set, texts[case as usize % texts.len()].as_bytes(), WORDS);
         assert!(count.is_some());
         let page: Vec<u32> = (0..0x11_0000).filter(|character| reference::scalar(*character)).collect();
         run.page(&words, &page, page.len(), page.len());
         let half = page.len() / 2;
         let halves = [Window { start: half, width: page.len() - half }, Window { start: 0, width: half }];
         run.windows(&words, &page, &halves, [page.len(); 2]);
-        for character in (0xD7FF..=0xE000).chain(0x10_FFFF..0x11_0100).chain(0..0x180) {
-            run.look_up(&words, character);
+        for character in (0xD7FF..=0xE000).chain(0x10_FFFF..0x11_0100).chain(0..0x180).chain(0xF000..0xF100) {
+            let _ = run.look_up(&words, character);
         }
     });
     part("attributes texts", 7, ATTRIBUTES_TEXTS, &|run, case| {
@@ -1107,11 +1398,16 @@ fn main() {
         }
     });
     part("byte texts", 16, BYTE_TEXTS, &|run, case| {
-        let text = generate::byte_text(&mut run.random);
-        run.byte_texts.count(reference::byte_table(&text).0.is_ok());
+        let (text, set) = generate::byte_text(&mut run.random);
+        run.byte_texts.count(reference::byte_table(set, &text).0.is_ok());
         match case % 8 {
-            0 => run.byte_table_all(&text),
-            _ => run.byte_table(&text),
+            0 => run.byte_table_all(set, &text),
+            _ => run.byte_table(set, &text),
+        }
+        if run.random.percent(20) {
+            // Made for one set, read in either.
+            let set = run.any_set();
+            run.byte_table(set, &text);
         }
     });
     part("editions", 18, TEXTS_FOR_EDITIONS, &|run, case| {
@@ -1119,9 +1415,53 @@ fn main() {
             0 => generate::long_text(&mut run.random).bytes,
             1..=3 => generate::text(&mut run.random).bytes,
             4..=6 => generate::attributes_text(&mut run.random),
-            _ => generate::byte_text(&mut run.random),
+            _ => generate::byte_text(&mut run.random).0,
         };
         run.editions(&text);
+    });
+    part("characters as bytes", 19, 1 << 16, &|run, case| {
+        let Some(character) = char::from_u32(case as u32) else {
+            return;
+        };
+        for set in Set::ALL {
+            run.compile(set, format!("byte {character} 1").as_bytes(), WORDS);
+            run.byte_table(set, format!("{character} 1").as_bytes());
+        }
+    });
+    part("any two lines", 20, (DIFFERENCES.len() * LINES_ABOUT.pow(2)) as u64, &|run, case| {
+        let case = case as usize;
+        let byte = DIFFERENCES[case / LINES_ABOUT.pow(2)];
+        let lines = lines_about(byte);
+        assert_eq!(lines.len(), LINES_ABOUT);
+        let text = [case % LINES_ABOUT, case / LINES_ABOUT % LINES_ABOUT].map(|which| lines[which].as_str()).concat();
+        run.two_lines(byte, &text);
+    });
+    part("last words", 21, 300 + 96 + 4, &|run, case| {
+        let case = case as u32;
+        let set = match case {
+            0..300 => case,
+            300..396 => (1 << (case % 32)) | ((case - 300) / 32),
+            _ => u32::MAX - (case - 396),
+        };
+        // A sound pair, none, and each of several first pairs at fault.
+        let tables: [&[u32]; 6] = [
+            &[0x20AC, 0x0100_0001],
+            &[],
+            &[0x20AC, 0],
+            &[0x20AC, 0x0100_0001, 0x20AC, 0x0100_0001],
+            &[0x20AC, 0x0300_00A4, 0xA4, 0x0300_20AC],
+            &[0, 0, 0x20AC, 0x0100_0001],
+        ];
+        for pairs in tables {
+            for zero in [0, 1, 2, 1 << 31, u32::MAX] {
+                run.last_words(pairs, [set, zero]);
+                run.last_words(pairs, [zero, set]);
+            }
+        }
+    });
+    part("growth", 22, GROWING_TEXTS, &|run, _| {
+        let (text, first) = generate::growing_text(&mut run.random);
+        run.growth(&text, first);
     });
 
     run.texts.print("texts of tables");
@@ -1182,7 +1522,7 @@ fn main() {
     let others: u64 = (0..run.rules.len()).filter(|rule| !RULES.contains(rule)).map(|rule| run.rules[rule]).sum();
     let mut print_met = |call: &str, met: &[(&str, u64)]| {
         for (name, count) in met {
-            println!("  {name:<40} {count:>12}");
+            println!("  {name:<45} {count:>12}");
             if *count < LEAST {
                 short.push(format!("{call}, {}", name.trim()));
             }
@@ -1192,6 +1532,17 @@ fn main() {
     print_met("windows call", &run.windows_met);
     println!("compile calls by edition 1: {}", run.calls[COMPILE_BYTES]);
     print_met("compile call by edition 1", &run.bytes_met);
+    println!("calls on lent tables, their length and last words:");
+    print_met("lent table", &run.lent_met);
+    for (which, set) in ["ISO 8859-1", "ISO 8859-15"].into_iter().enumerate() {
+        for (table, name) in [(TEXT_TABLE, "text tables"), (BYTE_TABLE, "byte tables")] {
+            println!("{name} in {set}, around the bytes in which the sets differ:");
+            let met: Vec<_> = sets_due(table).iter().map(|fact| run.sets_met[table][which][*fact]).collect();
+            print_met(&format!("{name} in {set}"), &met);
+        }
+        println!("tables in {set} that grow:");
+        print_met(&format!("growth in {set}"), &run.growth_met[which]);
+    }
     println!("time {:.1} s, differences {}", begun.elapsed().as_secs_f64(), run.differences);
 
     let mut failed = false;

@@ -1,18 +1,27 @@
-//! The worked examples and edges of document 01, the blocks, windows, columns and byte tables of document 02 and the settled
-//! readings, with the answers written out, on every side.
+//! The worked examples and edges of document 01, the blocks, windows, columns, byte tables and character sets of document 02
+//! and the settled readings, with the answers written out, on every side.
 
-use harness::reference::{self, Place, Refusal, Shown, Window, BYTE_EDITION, TEXT_EDITION, WORDS};
+use harness::reference::{
+    self, Place, Refusal, Shown, Window, BYTE_EDITION, ISO_8859_1, ISO_8859_15, TEXT_EDITION, WORDS,
+};
 use harness::side::SIDES;
 use std::fmt::Debug;
 
 const SMALL: &str = "char a 1\nchar b (12)\nglyph A 17\nalias \\u00E4 a\nalias \\u03B1 \\u00E4\nchar ? 1456\n";
 
+/// The sets, which most examples do not depend on: their texts have no byte in which the sets differ.
+const SETS: [u32; 2] = [ISO_8859_1, ISO_8859_15];
+
 type Answer = Result<u32, (u32, u32)>;
 
-fn compiled(text: &[u8]) -> Vec<u32> {
+fn compiled_in(set: u32, text: &[u8]) -> Vec<u32> {
     let mut words = vec![7; WORDS];
-    reference::compile(TEXT_EDITION, text, &mut words).expect("an accepted text");
+    reference::compile(TEXT_EDITION, set, text, &mut words).expect("an accepted text");
     words
+}
+
+fn compiled(text: &[u8]) -> Vec<u32> {
+    compiled_in(ISO_8859_1, text)
 }
 
 /// Number and place of a refusal, which has a column exactly if it is of a number with one.
@@ -21,21 +30,31 @@ fn pair(refusal: Refusal) -> (u32, u32) {
     (refusal.number, refusal.place)
 }
 
-/// Compiles on every side and looks at the answer and the words.
-fn expect_bytes(text: &[u8], answer: Answer, pairs: Option<&[[u32; 2]]>) {
+/// Compiles in a set on every side and looks at the answer and the words.
+fn expect_in(set: u32, text: &[u8], answer: Answer, pairs: Option<&[[u32; 2]]>) {
     for side in SIDES {
-        let mut words = vec![0xA5A5_A5A5; WORDS + 3];
-        let got = (side.compile)(TEXT_EDITION, text, &mut words).map_err(pair);
-        assert_eq!(got, answer, "{}: {:?}", side.name, String::from_utf8_lossy(text));
-        assert_eq!(words[WORDS..], [0xA5A5_A5A5; 3], "{}", side.name);
+        let mut words = vec![0xA5A5_A5A5; 2053];
+        let got = (side.compile)(TEXT_EDITION, set, text, &mut words).map_err(pair);
+        assert_eq!(got, answer, "{}: set {set}, {:?}", side.name, String::from_utf8_lossy(text));
+        assert_eq!(words[2050..], [0xA5A5_A5A5; 3], "{}", side.name);
         match answer {
             Err((1, _)) => assert!(words.iter().all(|word| *word == 0xA5A5_A5A5), "{}", side.name),
-            Err(_) => assert!(words[..WORDS].iter().all(|word| *word == 0), "{}", side.name),
-            Ok(count) => assert!(words[2 * count as usize..WORDS].iter().all(|word| *word == 0), "{}", side.name),
+            Err(_) => assert!(words[..2050].iter().all(|word| *word == 0), "{}", side.name),
+            Ok(count) => {
+                assert!(words[2 * count as usize..2048].iter().all(|word| *word == 0), "{}", side.name);
+                assert_eq!(words[2048..2050], [set, 0], "{}", side.name);
+            }
         }
         if let Some(pairs) = pairs {
-            assert_eq!(words[..2 * pairs.len()], pairs.concat(), "{}", side.name);
+            assert_eq!(words[..2 * pairs.len()], pairs.concat(), "{}: set {set}", side.name);
         }
+    }
+}
+
+/// The same in every set.
+fn expect_bytes(text: &[u8], answer: Answer, pairs: Option<&[[u32; 2]]>) {
+    for set in SETS {
+        expect_in(set, text, answer, pairs);
     }
 }
 
@@ -52,10 +71,16 @@ fn refuses_at(text: &str, number: u32, line: u32) {
 }
 
 fn shows(text: &str, character: u32, cell: u8, rule: u8, links: u32) {
-    let words = compiled(text.as_bytes());
+    for set in SETS {
+        shows_in(set, text, character, cell, rule, links);
+    }
+}
+
+fn shows_in(set: u32, text: &str, character: u32, cell: u8, rule: u8, links: u32) {
+    let words = compiled_in(set, text.as_bytes());
     for side in SIDES {
         let shown = Ok(Shown { cell, rule, links });
-        assert_eq!((side.look_up)(&words, character), shown, "{}: {text:?} {character:X}", side.name);
+        assert_eq!((side.look_up)(&words, character), shown, "{}: set {set}, {text:?} {character:X}", side.name);
         let (mut cells, mut rules) = ([9, 9], [9, 9]);
         assert_eq!((side.page)(&words, &[character], &mut cells, &mut rules), Ok(()), "{}", side.name);
         assert_eq!((cells, rules), ([cell, 9], [rule, 9]), "{}", side.name);
@@ -63,9 +88,11 @@ fn shows(text: &str, character: u32, cell: u8, rule: u8, links: u32) {
 }
 
 fn types(text: &str, cell: u8, character: Option<u32>) {
-    let words = compiled(text.as_bytes());
-    for side in SIDES {
-        assert_eq!((side.typed)(&words, cell), Ok(character), "{}: {text:?} {cell:X}", side.name);
+    for set in SETS {
+        let words = compiled_in(set, text.as_bytes());
+        for side in SIDES {
+            assert_eq!((side.typed)(&words, cell), Ok(character), "{}: set {set}, {text:?} {cell:X}", side.name);
+        }
     }
 }
 
@@ -123,11 +150,11 @@ fn lengths() {
     refuses_at(&"\n".repeat(65_537), 1, 0);
     refuses_at(&format!("{}x", "\n".repeat(65_535)), 5, 65_536);
     for side in SIDES {
-        for length in [0, 1, 2047] {
+        for length in [0, 1, 2047, 2048, 2049] {
             let mut words = vec![5; length];
             let short = Err(Refusal { number: 2, place: 0, column: 0 });
-            assert_eq!((side.compile)(TEXT_EDITION, b"", &mut words), short, "{}", side.name);
-            assert_eq!((side.compile)(TEXT_EDITION, &[b'\n'; 65_537], &mut words), short, "{}", side.name);
+            assert_eq!((side.compile)(TEXT_EDITION, ISO_8859_1, b"", &mut words), short, "{}", side.name);
+            assert_eq!((side.compile)(TEXT_EDITION, ISO_8859_1, &[b'\n'; 65_537], &mut words), short, "{}", side.name);
             assert!(words.iter().all(|word| *word == 5), "{}", side.name);
             assert_eq!((side.look_up)(&words, 0xD800).map_err(pair), Err((2, 0)), "{}", side.name);
             assert_eq!((side.typed)(&words, 0).map_err(pair), Err((2, 0)), "{}", side.name);
@@ -225,7 +252,7 @@ fn characters() {
         "byte é 1\nbyte \\x41 2\nbyte \\o377 0\nbyte \\s ()",
         &[glyph_pair('é', 1), glyph_pair('A', 2), glyph_pair('ÿ', 0), glyph_pair(' ', 0)],
     );
-    for word in ["\\o777", "\\o400", "\\u0041", "\\U00000041", "Ā", "€"] {
+    for word in ["\\o777", "\\o400", "\\u0041", "\\U00000041", "\\u00A4", "\\u20AC", "Ā", "₠", "\u{F061}"] {
         refuses(&format!("byte {word} 1"), 7);
     }
 }
@@ -599,7 +626,12 @@ fn blocks_left_open() {
     refuses_at(&format!("ifGlyph a\n{}", "\n".repeat(65_526)), 18, 1);
     for side in SIDES {
         let mut words = [5; WORDS - 1];
-        assert_eq!((side.compile)(TEXT_EDITION, b"ifGlyph a", &mut words).map_err(pair), Err((2, 0)), "{}", side.name);
+        assert_eq!(
+            (side.compile)(TEXT_EDITION, ISO_8859_1, b"ifGlyph a", &mut words).map_err(pair),
+            Err((2, 0)),
+            "{}",
+            side.name
+        );
         assert!(words.iter().all(|word| *word == 5), "{}", side.name);
     }
 }
@@ -633,8 +665,10 @@ fn columns<T: AsRef<[u8]>>(table: &[(T, [u32; 3])]) {
         expect_bytes(text, Err((*number, *place)), None);
         let refusal = Refusal { number: *number, place: *place, column: *column };
         for side in SIDES {
-            let got = (side.compile)(TEXT_EDITION, text, &mut [0; WORDS]);
-            assert_eq!(got, Err(refusal), "{}: {:?}", side.name, String::from_utf8_lossy(text));
+            for set in SETS {
+                let got = (side.compile)(TEXT_EDITION, set, text, &mut [0; WORDS]);
+                assert_eq!(got, Err(refusal), "{}: set {set}, {:?}", side.name, String::from_utf8_lossy(text));
+            }
         }
     }
 }
@@ -785,7 +819,7 @@ fn columns_of_characters() {
         ("alias 𝄞 \\x4", [7, 1, 12]),
         ("alias \\u00E9 \t\\", [7, 1, 15]),
         ("byte \\u0041 1", [7, 1, 6]),
-        ("byte   € 1", [7, 1, 8]),
+        ("byte   ₠ 1", [7, 1, 8]),
         ("ifGlyph \\q foo", [7, 1, 9]),
         ("ifGlyph é ifNotGlyph éé", [7, 1, 23]),
         ("ifGlyph 𝄞 ifGlyph € char é\\ 1", [7, 1, 31]),
@@ -923,7 +957,7 @@ fn no_columns() {
     columns(&[("\n".repeat(65_537), [1, 0, 0]), (format!("x{}", "\n".repeat(65_536)), [1, 0, 0])]);
     for side in SIDES {
         let short = Err(Refusal { number: 2, place: 0, column: 0 });
-        assert_eq!((side.compile)(TEXT_EDITION, b"char a 9", &mut [0; WORDS - 1]), short, "{}", side.name);
+        assert_eq!((side.compile)(TEXT_EDITION, ISO_8859_1, b"char a 9", &mut [0; WORDS - 1]), short, "{}", side.name);
         assert_eq!((side.attribute_cells)(b"dot 9", &mut [0; 255]), short, "{}", side.name);
     }
 }
@@ -968,8 +1002,8 @@ fn typing() {
 fn lent_tables() {
     let table = |pairs: &[[u32; 2]]| {
         let mut words = pairs.concat();
-        words.resize(WORDS, 0);
-        words.extend([1, 2, 3]);
+        words.resize(2048, 0);
+        words.extend([1, 0, 1, 2, 3]);
         words
     };
     let sound: [&[[u32; 2]]; 5] = [
@@ -1277,16 +1311,17 @@ fn entries() {
     entries_are(&of("glyph x 1\nchar a 1\nchar b 1\nbyte c 2\nalias d a\n"), Ok(&[(1, 0x62)]));
     entries_are(&of("char \\u2801 12\nchar \\uF041 3\n"), Ok(&[(3, 0x2802), (4, 0xF042)]));
     let mut words = of(SMALL);
-    entries_are(&words[..2047], Err((2, 0)));
-    entries_are(&[], Err((2, 0)));
+    for length in [0, 2047, 2048, 2049] {
+        entries_are(&words[..length], Err((2, 0)));
+    }
     words[4] = 0x61;
     entries_are(&words, Err((15, 2)));
     words[0] = 0xD800;
     entries_are(&words, Err((15, 0)));
     words.extend([1, 2, 3]);
-    words[..WORDS].fill(0);
+    words[..2048].fill(0);
     entries_are(&words, Ok(&[]));
-    words[WORDS - 1] = 1;
+    words[2047] = 1;
     entries_are(&words, Err((15, 1023)));
 }
 
@@ -1441,29 +1476,35 @@ fn cells_but(all: u8, bytes: &[(u8, u8)]) -> [u8; 256] {
     cells
 }
 
+/// A byte table in every set.
+fn byte_table_is(text: impl AsRef<[u8]>, answer: Result<(u32, [u8; 256]), [u32; 3]>) {
+    for set in SETS {
+        byte_table_in(set, text.as_ref(), answer);
+    }
+}
+
 /// Reads a byte table on every side, into buffers and beside words of several lengths, and looks at the answer, the cells
 /// and all that has to stay: the count and the cells, or number, line and column, and 255 for every byte.
-fn byte_table_is(text: impl AsRef<[u8]>, answer: Result<(u32, [u8; 256]), [u32; 3]>) {
-    let text = text.as_ref();
+fn byte_table_in(set: u32, text: &[u8], answer: Result<(u32, [u8; 256]), [u32; 3]>) {
     let expected = answer.map(|(count, _)| count);
     let expected = expected.map_err(|[number, place, column]| Refusal { number, place, column });
     let cells = answer.map_or([255; 256], |(_, cells)| cells);
     for side in SIDES {
-        let input = || format!("{}: {:?}", side.name, String::from_utf8_lossy(&text[..text.len().min(200)]));
-        for length in [0, 1, 2047, 2048, 2050] {
+        let input = || format!("{}: set {set}, {:?}", side.name, String::from_utf8_lossy(&text[..text.len().min(200)]));
+        for length in [0, 1, 2048, 2049, 2050, 2052] {
             let mut words = vec![0xA5A5_A5A5; length];
-            assert_eq!((side.compile)(BYTE_EDITION, text, &mut words), expected, "{}", input());
+            assert_eq!((side.compile)(BYTE_EDITION, set, text, &mut words), expected, "{}", input());
             assert_eq!(words, vec![0xA5A5_A5A5; length], "{}", input());
         }
         for length in [0, 1, 255] {
             let mut short = vec![0xA5; length];
             let refusal = Err(Refusal { number: 2, place: 0, column: 0 });
-            assert_eq!((side.byte_cells)(text, &mut short), refusal, "{}", input());
+            assert_eq!((side.byte_cells)(set, text, &mut short), refusal, "{}", input());
             assert_eq!(short, vec![0xA5; length], "{}", input());
         }
         for length in [256, 257, 300] {
             let mut buffer = vec![0xA5; length];
-            assert_eq!((side.byte_cells)(text, &mut buffer), expected, "{}", input());
+            assert_eq!((side.byte_cells)(set, text, &mut buffer), expected, "{}", input());
             assert_eq!(buffer[..256], cells, "{}", input());
             assert_eq!(buffer[256..], vec![0xA5; length - 256], "{}", input());
         }
@@ -1553,17 +1594,19 @@ fn every_byte() {
         byte_table_is(format!("{text}a 1 x\n"), Err([9, 257, 5]));
     }
     // As characters, but for whitespace, LF and the backslash.
-    let raw = |byte: u8| match byte {
-        b'\t' | b'\n' | b' ' | b'\\' => format!("\\x{byte:02X}"),
-        _ => char::from(byte).to_string(),
-    };
-    let text: String = (0..=255).map(|byte| format!("byte {} {}\n", raw(byte), dots(cell(byte)))).collect();
-    byte_table_is(text, Ok((256, cells)));
-    let text: String =
-        (0..=255).filter(|byte| *byte != b'#').map(|byte| format!("{} {}\n", raw(byte), dots(cell(byte)))).collect();
-    let mut but_number_sign = cells;
-    but_number_sign[usize::from(b'#')] = 0xFF;
-    byte_table_is(text, Ok((255, but_number_sign)));
+    for set in SETS {
+        let raw = |byte: u8| match byte {
+            b'\t' | b'\n' | b' ' | b'\\' => format!("\\x{byte:02X}"),
+            _ => local(set, byte).to_string(),
+        };
+        let line = |byte: u8| format!("{} {}\n", raw(byte), dots(cell(byte)));
+        let text: String = (0..=255).map(|byte| format!("byte {}", line(byte))).collect();
+        byte_table_in(set, text.as_bytes(), Ok((256, cells)));
+        let text: String = (0..=255).filter(|byte| *byte != b'#').map(line).collect();
+        let mut but_number_sign = cells;
+        but_number_sign[usize::from(b'#')] = 0xFF;
+        byte_table_in(set, text.as_bytes(), Ok((255, but_number_sign)));
+    }
 }
 
 #[test]
@@ -1585,7 +1628,7 @@ fn byte_operands() {
     let bad = [
         "ab", "\\", "\\#", "\\s", "\\b", "\\t", "\\n", "\\v", "\\f", "\\r", "\\o101", "\\o377", "\\u0041",
         "\\U00000041", "\\x", "\\x4", "\\x041", "\\X", "\\X4", "\\X041", "\\xg0", "\\x0g", "\\x+4", "\\x4\u{661}",
-        "\\\\\\", "\\\\x41", "\\é", "é\\", "\\x41\\", "Ā", "€", "𝄞", "\u{FFFD}", "\u{F061}", "\u{FEFF}a", "a\u{301}",
+        "\\\\\\", "\\\\x41", "\\é", "é\\", "\\x41\\", "Ā", "₠", "𝄞", "\u{FFFD}", "\u{F061}", "\u{FEFF}a", "a\u{301}",
         "éé", "aa#", "byte", "dot",
     ];
     for word in bad {
@@ -1822,13 +1865,15 @@ fn editions() {
     // Also such as are 1 or 2 in fewer bits.
     for edition in [0, 3, 4, 0x101, 0x102, 0x1_0001, 0x1_0002, 0x8000_0001, 0x8000_0002, u32::MAX - 1, u32::MAX] {
         for text in texts {
-            for length in [0, 2047, 2048, 2050] {
-                for side in SIDES {
-                    let mut words = vec![0xA5A5_A5A5; length];
-                    let refusal = Err(Refusal { number: 20, place: 0, column: 0 });
-                    let got = (side.compile)(edition, text.as_bytes(), &mut words);
-                    assert_eq!(got, refusal, "{}: edition {edition:X}", side.name);
-                    assert_eq!(words, vec![0xA5A5_A5A5; length], "{}: edition {edition:X}", side.name);
+            for length in [0, 2047, 2048, 2049, 2050, 2052] {
+                for set in [0, 1, 2, 3, u32::MAX] {
+                    for side in SIDES {
+                        let mut words = vec![0xA5A5_A5A5; length];
+                        let refusal = Err(Refusal { number: 20, place: 0, column: 0 });
+                        let got = (side.compile)(edition, set, text.as_bytes(), &mut words);
+                        assert_eq!(got, refusal, "{}: edition {edition:X}, set {set:X}", side.name);
+                        assert_eq!(words, vec![0xA5A5_A5A5; length], "{}: edition {edition:X}", side.name);
+                    }
                 }
             }
         }
@@ -1846,9 +1891,359 @@ fn editions() {
     ] {
         for side in SIDES {
             for (edition, number) in [(TEXT_EDITION, number), (BYTE_EDITION, old_number)] {
-                let got = (side.compile)(edition, text.as_bytes(), &mut [0; WORDS]);
-                assert_eq!(got.map_or_else(|refusal| refusal.number, |_| 0), number, "{}: {text:?}", side.name);
+                for set in SETS {
+                    let got = (side.compile)(edition, set, text.as_bytes(), &mut [0; WORDS]);
+                    assert_eq!(got.map_or_else(|refusal| refusal.number, |_| 0), number, "{}: {text:?}", side.name);
+                }
             }
+        }
+    }
+}
+
+// In what follows the characters are written out a second time, beside those of the reference.
+
+/// The bytes in which the sets differ, with their characters in ISO 8859-1 and ISO 8859-15.
+const DIFFERENCES: [(u8, char, char); 8] = [
+    (0xA4, '\u{A4}', '\u{20AC}'),
+    (0xA6, '\u{A6}', '\u{160}'),
+    (0xA8, '\u{A8}', '\u{161}'),
+    (0xB4, '\u{B4}', '\u{17D}'),
+    (0xB8, '\u{B8}', '\u{17E}'),
+    (0xBC, '\u{BC}', '\u{152}'),
+    (0xBD, '\u{BD}', '\u{153}'),
+    (0xBE, '\u{BE}', '\u{178}'),
+];
+
+/// The character of a byte in a set.
+fn local(set: u32, byte: u8) -> char {
+    match DIFFERENCES.iter().find(|(differing, ..)| *differing == byte && set == ISO_8859_15) {
+        Some((_, _, character)) => *character,
+        None => char::from(byte),
+    }
+}
+
+#[test]
+fn sets_that_there_are_not() {
+    let texts = ["", "char a 1\n", "byte a 1\n", "dot 1 on\n", "x", "ifGlyph a", "€ 1", &"\n".repeat(65_537)];
+    let refusal = Err(Refusal { number: 21, place: 0, column: 0 });
+    // Also such as are 1 or 2 in fewer bits.
+    for set in [0, 3, 4, 5, 0x101, 0x102, 0x1_0001, 0x1_0002, 0x8000_0001, 0x8000_0002, u32::MAX - 1, u32::MAX] {
+        for text in texts.map(str::as_bytes) {
+            for side in SIDES {
+                let input = || format!("{}: set {set:X}", side.name);
+                for length in [0, 2047, 2048, 2049, 2050, 2052] {
+                    for edition in [BYTE_EDITION, TEXT_EDITION] {
+                        let mut words = vec![0xA5A5_A5A5; length];
+                        assert_eq!((side.compile)(edition, set, text, &mut words), refusal, "{}", input());
+                        assert_eq!(words, vec![0xA5A5_A5A5; length], "{}", input());
+                    }
+                }
+                for length in [0, 1, 255, 256, 300] {
+                    // A buffer that is too short comes first; else all cells of a refused table are 255.
+                    let (answer, filled) = match length {
+                        256.. => (refusal, 256),
+                        _ => (Err(Refusal { number: 2, place: 0, column: 0 }), 0),
+                    };
+                    let mut cells = vec![0xA5; length];
+                    assert_eq!((side.byte_cells)(set, text, &mut cells), answer, "{}", input());
+                    assert_eq!(cells[..filled], vec![0xFF; filled], "{}", input());
+                    assert_eq!(cells[filled..], vec![0xA5; length - filled], "{}", input());
+                }
+            }
+        }
+    }
+}
+
+#[test]
+fn bytes_of_a_set() {
+    for set in SETS {
+        for byte in 0..=255 {
+            let character = local(set, byte);
+            let mut forms = vec![format!("\\x{byte:02x}"), format!("\\X{byte:02X}"), format!("\\o{byte:03o}")];
+            if !matches!(byte, b'\t' | b'\n' | b' ' | b'\\') {
+                forms.push(character.to_string());
+            }
+            for form in forms {
+                let text = format!("byte {form} 1\n");
+                expect_in(set, text.as_bytes(), Ok(1), Some(&[glyph_pair(character, 1)]));
+                shows_in(set, &text, character as u32, 1, 3, 0);
+                shows_in(set, &text, 0xF000 + u32::from(byte), 1, 19, 0);
+            }
+        }
+    }
+}
+
+#[test]
+fn characters_of_one_set() {
+    for (byte, first, second) in DIFFERENCES {
+        for (set, own, other) in [(ISO_8859_1, first, second), (ISO_8859_15, second, first)] {
+            expect_in(set, format!("byte {own} 12").as_bytes(), Ok(1), Some(&[glyph_pair(own, 3)]));
+            byte_table_in(set, format!("{own} 12").as_bytes(), Ok((1, cells_but(0xFF, &[(byte, 3)]))));
+            byte_table_in(set, format!("byte {own} 12").as_bytes(), Ok((1, cells_but(0xFF, &[(byte, 3)]))));
+            byte_table_in(set, format!("{other} 12").as_bytes(), Err([7, 1, 1]));
+            byte_table_in(set, format!("a 1\n  byte {other}").as_bytes(), Err([7, 2, 8]));
+            for (text, column) in [
+                (format!("byte {other} 12"), 6),
+                (format!("  byte\t{other}"), 8),
+                (format!("ifGlyph a byte {other} 9"), 16),
+                (format!("byte {other} {other}"), 6),
+            ] {
+                expect_in(set, text.as_bytes(), Err((7, 1)), None);
+                for side in SIDES {
+                    let refusal = Err(Refusal { number: 7, place: 1, column });
+                    let got = (side.compile)(TEXT_EDITION, set, text.as_bytes(), &mut [0; WORDS]);
+                    assert_eq!(got, refusal, "{}: set {set}, {text:?}", side.name);
+                }
+            }
+            // Two of them, and one with text behind it, are no character.
+            for word in [format!("{own}{own}"), format!("{own}{other}"), format!("{own}a"), format!("\\{own}")] {
+                expect_in(set, format!("byte {word} 1").as_bytes(), Err((7, 1)), None);
+                byte_table_in(set, format!("{word} 1").as_bytes(), Err([7, 1, 1]));
+            }
+        }
+        // The numbers of the characters that ISO 8859-15 has are no bytes, however they are written.
+        let number = second as u32;
+        let mut words = vec![format!("\\u{number:04X}"), format!("\\U{number:08x}"), format!("\\u{byte:04X}")];
+        words.extend([format!("\\U{byte:08X}"), char::from_u32(0xF000 + u32::from(byte)).into_iter().collect()]);
+        if number <= 0o777 {
+            words.push(format!("\\o{number:o}"));
+        }
+        for word in words {
+            refuses(&format!("byte {word} 1"), 7);
+            byte_table_is(format!("{word} 1"), Err([7, 1, 1]));
+        }
+    }
+}
+
+#[test]
+fn other_operands_in_every_set() {
+    for (byte, first, second) in DIFFERENCES {
+        // As a character an escape is its number.
+        for form in [format!("\\x{byte:02X}"), format!("\\X{byte:02x}"), format!("\\o{byte:03o}"), first.to_string()] {
+            accepts(&format!("char {form} 1"), &[char_pair(first, 1)]);
+            accepts(&format!("glyph {form} 1"), &[glyph_pair(first, 1)]);
+            accepts(&format!("alias {form} a"), &[alias_pair(first, 'a')]);
+            accepts(&format!("alias a {form}"), &[alias_pair('a', first)]);
+            accepts(&format!("char {form} 1\nchar {second} 2"), &[char_pair(first, 1), char_pair(second, 2)]);
+            accepts(&format!("glyph {first} 1\nifGlyph {form} char b 2"), &[glyph_pair(first, 1), char_pair('b', 2)]);
+            accepts(&format!("glyph {second} 1\nifGlyph {form} char b 2"), &[glyph_pair(second, 1)]);
+            accepts(
+                &format!("glyph {second} 1\nifNotGlyph {form}\nchar b 1\nendIf"),
+                &[glyph_pair(second, 1), char_pair('b', 1)],
+            );
+            shows(&format!("char {form} 1"), first as u32, 1, 3, 0);
+            shows(&format!("char {form} 1"), second as u32, 0xFF, 9, 0);
+            shows(&format!("alias a {form}\nchar {first} 1"), 'a' as u32, 1, 4, 1);
+            shows(&format!("alias a {form}\nchar {second} 1"), 'a' as u32, 0xFF, 9, 1);
+            types(&format!("char {form} 1"), 1, Some(first as u32));
+        }
+        types(&format!("char {second} 1"), 1, Some(second as u32));
+        let private = char::from_u32(0xF000 + u32::from(byte)).expect("a scalar");
+        accepts(&format!("char {private} 1"), &[char_pair(private, 1)]);
+        types(&format!("char {private} 1"), 1, Some(private as u32));
+        // Rule 2 has no part in a walk.
+        shows(&format!("alias a {private}\nchar {first} 1\nchar {second} 1"), 'a' as u32, 0xFF, 9, 1);
+    }
+}
+
+#[test]
+fn repeats_in_a_set() {
+    for (byte, first, second) in DIFFERENCES {
+        for (set, own, other) in [(ISO_8859_1, first, second), (ISO_8859_15, second, first)] {
+            // By the character that comes out.
+            for form in [format!("\\x{byte:02X}"), format!("\\o{byte:03o}"), own.to_string()] {
+                for directive in ["char _ 1", "glyph _ 2", "alias _ a", "byte _ 3"] {
+                    let line = directive.replace('_', &own.to_string());
+                    expect_in(set, format!("{line}\nbyte {form} 1").as_bytes(), Err((11, 2)), None);
+                    expect_in(set, format!("byte {form} 1\n{line}").as_bytes(), Err((11, 2)), None);
+                    expect_in(set, format!("{line}\nifCell 8 byte {form} 1").as_bytes(), Ok(1), None);
+                    if !directive.starts_with("byte") {
+                        let line = directive.replace('_', &other.to_string());
+                        expect_in(set, format!("{line}\nbyte {form} 1").as_bytes(), Ok(2), None);
+                        expect_in(set, format!("byte {form} 1\n{line}").as_bytes(), Ok(2), None);
+                    }
+                }
+                expect_in(set, format!("alias {own} {own}").as_bytes(), Err((12, 1)), None);
+            }
+            for text in [
+                format!("\\x{byte:02x} 1\n{own} 1"),
+                format!("{own} 1\nbyte \\X{byte:02X} 2"),
+                format!("byte {own} 1\n{own} 2"),
+            ] {
+                byte_table_in(set, text.as_bytes(), Err([11, 2, 1]));
+            }
+        }
+    }
+    // Both currency signs, by what one set has for them.
+    for (text, in_first, in_second) in [
+        ("char € 1\nbyte \\xA4 1", Ok(2), Err((11, 2))),
+        ("char ¤ 1\nbyte \\xA4 1", Err((11, 2)), Ok(2)),
+        ("char \\xA4 1\nbyte \\xA4 1", Err((11, 2)), Ok(2)),
+        ("byte \\xA4 1\nchar \\u20AC 1", Ok(2), Err((11, 2))),
+        ("byte \\o244 1\nbyte €  1", Err((7, 2)), Err((11, 2))),
+        ("byte \\o244 1\nbyte ¤ 1", Err((11, 2)), Err((7, 2))),
+        ("alias € ¤\nbyte \\xA4 1", Ok(2), Err((11, 2))),
+    ] {
+        expect_in(ISO_8859_1, text.as_bytes(), in_first, None);
+        expect_in(ISO_8859_15, text.as_bytes(), in_second, None);
+    }
+}
+
+#[test]
+fn private_row_in_a_set() {
+    for (byte, first, second) in DIFFERENCES {
+        let private = 0xF000 + u32::from(byte);
+        for (set, own, other) in [(ISO_8859_1, first, second), (ISO_8859_15, second, first)] {
+            shows_in(set, &format!("char {own} 1"), private, 1, 19, 0);
+            shows_in(set, &format!("char {own} 1\nchar {other} 2"), private, 1, 19, 0);
+            shows_in(set, &format!("alias {own} a\nglyph a 1\nchar {other} 2"), private, 1, 20, 1);
+            shows_in(set, &format!("alias {own} {other}\nglyph {other} 2"), private, 2, 20, 1);
+            shows_in(set, &format!("alias {own} a\nalias a b\nchar ? 1"), private, 1, 24, 2);
+            shows_in(set, &format!("char {other} 1"), private, 0xFF, 25, 0);
+            shows_in(set, &format!("char {other} 1\nchar \\uFFFD 12"), private, 3, 23, 0);
+            // Conditions, in both forms and in blocks.
+            let private = format!("\\u{private:04X}");
+            let asked = format!("char {own} 1\nifGlyph {private} char a 1\nifNotGlyph {private} char b 1");
+            expect_in(set, asked.as_bytes(), Ok(2), Some(&[char_pair(own, 1), char_pair('a', 1)]));
+            let asked = format!("char {other} 1\nifGlyph {private} char a 1\nifNotGlyph {private} char b 1");
+            expect_in(set, asked.as_bytes(), Ok(2), Some(&[char_pair(other, 1), char_pair('b', 1)]));
+            let asked = format!("byte \\x{byte:02X} 1\nifGlyph {private}\nchar a 1\nelse\nchar b 1\nendIf");
+            expect_in(set, asked.as_bytes(), Ok(2), Some(&[glyph_pair(own, 1), char_pair('a', 1)]));
+            let asked = format!("alias {own} z\nglyph z 1\nifGlyph {private} char a 1");
+            expect_in(set, asked.as_bytes(), Ok(3), None);
+        }
+        // No base and no stand-in, however it is asked for.
+        let letters =
+            "char S 1\nchar s 1\nchar Z 1\nchar z 1\nchar O 1\nchar o 1\nchar Y 1\nchar y 1\nchar E 1\nchar e 1\n";
+        shows(letters, second as u32, 0xFF, 9, 0);
+        shows(letters, private, 0xFF, 25, 0);
+        shows(&format!("{letters}char ? 2\n"), private, 2, 24, 0);
+    }
+    // The bytes between them are the same in both.
+    for (character, rule) in [(0xF0A5, 25), (0xF0A7, 25), (0xF0C5, 21), (0xF0C6, 22), (0xF0FF, 21), (0xF0A0, 22)] {
+        let cell = if rule == 25 { 0xFF } else { 1 };
+        shows("char A 1\nchar y 1\nchar \\s 1\nchar ¤ 1\nchar € 1\n", character, cell, rule, 0);
+    }
+}
+
+#[test]
+fn byte_tables_in_a_set() {
+    let states = "dot 1 =fg-red\ndot 2 ~bg-green\ndot 3 =blink\ndot 4 off\ndot 5 on\n";
+    // Dots 5 to 8 are F0: `on`, and three without a line.
+    let by_dots: [u8; 256] = std::array::from_fn(|byte| {
+        let dots = [(byte / 4 % 2 == 1, 1), (byte / 32 % 2 == 0, 2), (byte / 128 == 1, 4)];
+        0xF0 + dots.iter().filter(|(raised, _)| *raised).map(|(_, dot)| dot).sum::<u8>()
+    });
+    byte_table_is(states, Ok((0, by_dots)));
+    // A byte goes by its own bits, whatever its character is.
+    for (byte, first, second) in DIFFERENCES {
+        for (set, own) in [(ISO_8859_1, first), (ISO_8859_15, second)] {
+            let mut cells = by_dots;
+            cells[usize::from(byte)] = 0x80;
+            for form in [own.to_string(), format!("byte \\x{byte:02X}"), format!("\\X{byte:02x}")] {
+                byte_table_in(set, format!("{form} 8\n{states}").as_bytes(), Ok((1, cells)));
+            }
+            byte_table_in(set, format!("{own} 9").as_bytes(), Err([8, 1, own.len_utf8() as u32 + 2]));
+            byte_table_in(set, format!(" {own}").as_bytes(), Err([6, 1, own.len_utf8() as u32 + 2]));
+        }
+    }
+    // All sixteen characters: eight are bytes.
+    for set in SETS {
+        let (mut text, mut cells) = (String::new(), [0xFF; 256]);
+        for (byte, ..) in DIFFERENCES {
+            text += &format!("{} 1\n", local(set, byte));
+            cells[usize::from(byte)] = 1;
+        }
+        byte_table_in(set, text.as_bytes(), Ok((8, cells)));
+        byte_table_in(3 - set, text.as_bytes(), Err([7, 1, 1]));
+    }
+}
+
+#[test]
+fn last_words_of_a_table() {
+    let table = |pairs: &[[u32; 2]], last: [u32; 2]| {
+        let mut words = pairs.concat();
+        words.resize(2048, 0);
+        words.extend(last);
+        // Beyond it anything may stand.
+        words.extend([9, 9, 9]);
+        words
+    };
+    let refused = |words: &[u32], number: u32, place: u32| {
+        let refusal = Refusal { number, place, column: 0 };
+        for side in SIDES {
+            let last = &words[2040.min(words.len())..];
+            let (mut cells, mut rules, mut entries) = ([5; 2], [6; 2], [7; 256]);
+            let windows = [Window { start: 0, width: 2 }];
+            assert_eq!((side.look_up)(words, 0xF0A4), Err(refusal), "{} {last:X?}", side.name);
+            assert_eq!((side.look_up)(words, 0xD800), Err(refusal), "{} {last:X?}", side.name);
+            assert_eq!((side.typed)(words, 1), Err(refusal), "{} {last:X?}", side.name);
+            assert_eq!((side.entries)(words, &mut entries), Err(refusal), "{} {last:X?}", side.name);
+            let page = [0xD800, 0x61];
+            assert_eq!((side.page)(words, &page, &mut cells, &mut rules), Err(refusal), "{} {last:X?}", side.name);
+            assert_eq!((side.page)(words, &[], &mut [], &mut []), Err(refusal), "{} {last:X?}", side.name);
+            let got = (side.windows)(words, &page, &windows, &mut cells, &mut rules);
+            assert_eq!(got, Err(refusal), "{} {last:X?}", side.name);
+            assert_eq!((cells, rules, entries), ([5; 2], [6; 2], [7; 256]), "{} {last:X?}", side.name);
+        }
+    };
+    let sound: [&[[u32; 2]]; 3] = [&[], &[[0x20AC, 0x0100_0001]], &[[0x20AC, 0x0300_00A4], [0xA4, 0x0200_0002]]];
+    for pairs in sound {
+        // Zeros are no table.
+        refused(&table(pairs, [0, 0]), 15, 1024);
+        for set in [3, 4, 0x100, 0x101, 0x102, 0x1_0001, 0x1_0002, 0x8000_0001, 0x8000_0002, u32::MAX] {
+            refused(&table(pairs, [set, 0]), 15, 1024);
+            refused(&table(pairs, [set, 1]), 15, 1024);
+        }
+        for set in SETS {
+            for zero in [1, 2, 0x100, 0x1_0000, 0x8000_0000, u32::MAX] {
+                refused(&table(pairs, [set, zero]), 15, 1024);
+            }
+            refused(&table(pairs, [0, set]), 15, 1024);
+            for length in [0, 1, 2047, 2048, 2049] {
+                refused(&table(pairs, [set, 0])[..length], 2, 0);
+                refused(&table(pairs, [3, 1])[..length], 2, 0);
+            }
+        }
+    }
+    // After all other pairs.
+    let faulty: [(&[[u32; 2]], u32); 5] = [
+        (&[[0x61, 0]], 0),
+        (&[[0x61, 0x0100_0001], [0x61, 0x0100_0001]], 1),
+        (&[[0x61, 0x0100_0001], [0x62, 0x0300_0062]], 1),
+        (&[[0, 0], [0, 0], [0, 1]], 2),
+        (&[[0, 0], [0x61, 0x0100_0001]], 1),
+    ];
+    for (pairs, place) in faulty {
+        for last in [[1, 0], [2, 0], [0, 0], [3, 0], [1, 1], [3, 1]] {
+            refused(&table(pairs, last), 15, place);
+        }
+    }
+    let full: Vec<[u32; 2]> = (0..1024).map(|k| [0x4000 + k, 0x0100_0001]).collect();
+    refused(&table(&full, [0, 0]), 15, 1024);
+    refused(&table(&full, [2, 1]), 15, 1024);
+    let mut repeated = full.clone();
+    repeated[1023] = repeated[0];
+    refused(&table(&repeated, [0, 0]), 15, 1023);
+    // The same pairs in either set; typing does not go by it.
+    let pairs = [[0xA4, 0x0100_0001], [0x20AC, 0x0100_0002]];
+    for (set, cell) in [(ISO_8859_1, 1), (ISO_8859_15, 2)] {
+        let words = table(&pairs, [set, 0]);
+        for side in SIDES {
+            let shown = Ok(Shown { cell, rule: 19, links: 0 });
+            assert_eq!((side.look_up)(&words, 0xF0A4), shown, "{}", side.name);
+            let (mut cells, mut rules) = ([0; 3], [0; 3]);
+            assert_eq!((side.page)(&words, &[0xA4, 0x20AC, 0xF0A4], &mut cells, &mut rules), Ok(()), "{}", side.name);
+            assert_eq!((cells, rules), ([1, 2, cell], [3, 3, 19]), "{}", side.name);
+            let (windows, mut cells) = ([Window { start: 2, width: 1 }, Window { start: 0, width: 2 }], [0; 3]);
+            let got = (side.windows)(&words, &[0xA4, 0x20AC, 0xF0A4], &windows, &mut cells, &mut rules);
+            assert_eq!((got, cells, rules), (Ok(()), [cell, 1, 2], [19, 3, 3]), "{}", side.name);
+            assert_eq!(((side.typed)(&words, 1), (side.typed)(&words, 2)), (Ok(Some(0xA4)), Ok(Some(0x20AC))));
+        }
+        for place in [0, 1, 2, 3, 1022, 1023] {
+            let mut words = table(&pairs, [set, 1]);
+            words[2 * place] = 0xD800;
+            refused(&words, 15, place as u32);
         }
     }
 }

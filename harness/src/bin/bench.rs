@@ -3,7 +3,8 @@
 use harness::generate::backward_chain_text;
 use harness::random::Random;
 use harness::reference::{
-    self, Refusal, Window, BYTE_EDITION, CELLS, LINE_BYTES, PAIRS, TEXT_BYTES, TEXT_EDITION, WORDS,
+    self, Refusal, Window, BYTE_EDITION, CELLS, ISO_8859_1, ISO_8859_15, LINE_BYTES, PAIRS, SET_WORD, TEXT_BYTES,
+    TEXT_EDITION, WORDS,
 };
 use harness::side::{Side, SIDES};
 use std::ffi::OsString;
@@ -259,7 +260,7 @@ fn failing_conditions() -> String {
 
 fn table(text: &str) -> Vec<u32> {
     let mut words = vec![0; WORDS];
-    reference::compile(TEXT_EDITION, text.as_bytes(), &mut words).expect("an accepted text");
+    reference::compile(TEXT_EDITION, ISO_8859_1, text.as_bytes(), &mut words).expect("an accepted text");
     words
 }
 
@@ -293,7 +294,9 @@ type Size<'a> = (&'a str, &'a [u32], usize);
 
 fn compile_row(name: &str, text: &str) {
     assert!(text.len() <= TEXT_BYTES);
-    row(name, vec![0xA5A5_A5A5; WORDS], |side, words| (side.compile)(TEXT_EDITION, black_box(text.as_bytes()), words));
+    row(name, vec![0xA5A5_A5A5; WORDS], |side, words| {
+        (side.compile)(TEXT_EDITION, ISO_8859_1, black_box(text.as_bytes()), words)
+    });
 }
 
 fn page_row(name: &str, words: &[u32], characters: &[u32]) {
@@ -384,8 +387,9 @@ fn byte_rows() {
     let text = byte_lines();
     let text = text.as_bytes();
     heading("byte tables, 256 byte lines");
-    row("compile, edition 1", (), |side, ()| (side.compile)(BYTE_EDITION, black_box(text), &mut []));
-    row("byte_cells", [0; CELLS], |side, cells| (side.byte_cells)(black_box(text), cells));
+    row("compile, edition 1", (), |side, ()| (side.compile)(BYTE_EDITION, ISO_8859_1, black_box(text), &mut []));
+    row("byte_cells", [0; CELLS], |side, cells| (side.byte_cells)(ISO_8859_1, black_box(text), cells));
+    row("byte_cells, ISO 8859-15", [0; CELLS], |side, cells| (side.byte_cells)(ISO_8859_15, black_box(text), cells));
 }
 
 fn check_rows(small: &[u32], large: &[u32], chain: &[u32], forward_chain: &[u32]) {
@@ -439,6 +443,17 @@ fn falling_rows(sizes: [Size; 2]) {
     }
 }
 
+/// Every private-row character in turn, none of them defined.
+fn private_rows(small: &[u32]) {
+    heading("page of private-row characters");
+    let page: Vec<u32> = (0xF000..=0xF0FF).cycle().take(100_000).collect();
+    for (name, set) in [("ISO 8859-1", ISO_8859_1), ("ISO 8859-15", ISO_8859_15)] {
+        let mut words = small.to_vec();
+        words[SET_WORD] = set;
+        page_row(&format!("100,000 characters, 32 definitions, {name}"), &words, &page);
+    }
+}
+
 fn measure() {
     let chain_text = backward_chain_text(1000);
     let forward_chain_text: String = chain_text.lines().rev().map(|line| format!("{line}\n")).collect();
@@ -451,6 +466,7 @@ fn measure() {
     page_rows(sizes, &forward_chain);
     windows_rows(sizes);
     falling_rows(sizes);
+    private_rows(&small);
     typed_rows(sizes);
     attribute_rows();
     byte_rows();
