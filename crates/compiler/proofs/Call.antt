@@ -22,7 +22,7 @@ use Rattle.blocks.specs.declared.Blocks.{Blocks}
 use Rattle.blocks.proofs.Stacks.{stack-none}
 use Rattle.table.specs.Words.{pairWords, tableWords, charsetOf, definitions}
 use Rattle.table.specs.Internal.{Written}
-use Rattle.table.proofs.Written.{begun-charset, begun-beyond, same-charset, same-beyond, written-length}
+use Rattle.table.proofs.Written.{empty-charset, empty-beyond, same-charset, same-beyond, written-length}
 use Rattle.compiler.specs.Compile.{SoFar, begun, step, closing, compiled, compileReply, compileColumn, compileWords}
 use Rattle.compiler.specs.Internal.{standing, firstState, Ready, Leaves, Settled}
 use Rattle.compiler.specs.declared.State.{State}
@@ -129,7 +129,7 @@ module _ (charset : ℕ) (text entry : List ℕ) (known : isCharset charset ≡ 
     -- the lines are read into empty words for the set
     module _ (empty : List ℕ) (q : empty ≡ replicate pairWords 0 ++ charset ∷ 0 ∷ drop tableWords entry) (r : Compiled) (ws : List ℕ) (read : Settled (compiled (charsetOf empty) text) empty r ws) where
       set : charsetOf empty ≡ charset
-      set = begun-charset (drop tableWords entry) empty charset q
+      set = empty-charset (drop tableWords entry) empty charset q
 
       pub read-answer : compiledReply r ≡ compileReply charset text (length entry)
       unfolding compileReply
@@ -141,4 +141,4 @@ module _ (charset : ℕ) (text entry : List ℕ) (known : isCharset charset ≡ 
 
       pub read-words : length text ≤ textLimit → ws ≡ compileWords charset text entry
       unfolding compileWords
-      read-words short = read .words ∙ rw (set, begun-beyond (drop tableWords entry) empty charset q, known, le-ltb _ _ enough, le-ltb _ _ short)
+      read-words short = read .words ∙ rw (set, empty-beyond (drop tableWords entry) empty charset q, known, le-ltb _ _ enough, le-ltb _ _ short)

@@ -192,7 +192,7 @@ fn compile_in(charset: u32, text: &[u8], words: &mut [u32]) -> Compiled
             column: 0,
         };
     }
-    table::begin(words, charset);
+    table::make_empty(words, charset);
     read_lines(words, text)
 }
 

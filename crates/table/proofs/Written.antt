@@ -1,4 +1,4 @@
--- Words that are a table so far: begun without definitions, and with one definition more stored.
+-- Words that are a table so far: empty, and with one definition more stored.
 use Prim.Native.Nat.{ℕ, zero, suc, _+_, _*_, _-_, _<_}
 use mathlib.Core.Path.{_≡_, refl, sym, ap, _∙_}
 use mathlib.Core.Bool.{true}
@@ -25,21 +25,21 @@ set-behind (suc m) u charset = ap (λ (l : List ℕ). 0 ∷ l) (set-behind m u c
 pub set-put : (u ws : List ℕ) (charset : ℕ) → ws ≡ replicate tableWords 0 ++ u → set ws pairWords charset ≡ replicate pairWords 0 ++ charset ∷ 0 ∷ u
 set-put u ws charset e = rw e (set-behind pairWords u charset)
 
--- words that are begun are the table of no definition, for their set
-module _ (u begun : List ℕ) (charset : ℕ) (q : begun ≡ replicate pairWords 0 ++ charset ∷ 0 ∷ u) where
-  behind : drop pairWords begun ≡ charset ∷ 0 ∷ u
+-- words that were made empty are the table of no definition, for their set
+module _ (u empty : List ℕ) (charset : ℕ) (q : empty ≡ replicate pairWords 0 ++ charset ∷ 0 ∷ u) where
+  behind : drop pairWords empty ≡ charset ∷ 0 ∷ u
   behind = rw q (drop-at (replicate pairWords 0) (charset ∷ 0 ∷ u) pairWords (length-replicate {A = ℕ} pairWords 0))
 
-  pub begun-charset : charsetOf begun ≡ charset
-  begun-charset = behind-charset begun u charset behind
+  pub empty-charset : charsetOf empty ≡ charset
+  empty-charset = behind-charset empty u charset behind
 
-  pub begun-beyond : drop tableWords begun ≡ u
-  begun-beyond = behind-beyond begun u charset behind
+  pub empty-beyond : drop tableWords empty ≡ u
+  empty-beyond = behind-beyond empty u charset behind
 
-  pub begun-written : Written begun 0
+  pub empty-written : Written empty 0
   unfolding definitions wordsOf
-  begun-written = record {
-    image = rw (begun-charset, begun-beyond) (q ∙ sym (append-assoc (replicate pairWords 0) (charset ∷ 0 ∷ []) u));
+  empty-written = record {
+    image = rw (empty-charset, empty-beyond) (q ∙ sym (append-assoc (replicate pairWords 0) (charset ∷ 0 ∷ []) u));
     room = omega arith;
     long = rw q (omega (arith, length-append (replicate pairWords 0) (charset ∷ 0 ∷ u), length-replicate {A = ℕ} pairWords 0));
   }

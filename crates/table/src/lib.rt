@@ -198,7 +198,7 @@ pub fn clear(words: &mut [u32])
 }
 
 // Makes the words an empty table for a local character set.
-pub fn begin(words: &mut [u32], charset: u32)
+pub fn make_empty(words: &mut [u32], charset: u32)
     requires { ⌜ tableWords ≤ length (now words) ⌝ }
     ensures { λ r. ⌜ now (words .exit) ≡ replicate pairWords 0 ++ charset ∷ 0 ∷ drop tableWords (now (words .entry)) ⌝ }
 {
