@@ -15,7 +15,7 @@ use Rattle.basics.specs.declared.Maybe.the-variants.{Nothing, Character}
 use Rattle.unicode.specs.Characters.{isScalar, asByte, localCharacter, localByte}
 use Rattle.unicode.specs.Internal.{EightBits}
 use Rattle.unicode.proofs.Charsets.{local-scalar, local-small}
-use Rattle.operands.specs.Characters.{characterOf, byteOf, byteCharacterOf}
+use Rattle.operands.specs.Characters.{characterOf, isUnicodeEscape, byteOf, byteCharacterOf}
 use Rattle.operands.specs.Dots.{raiseBy, raise, raiseInside, ifRaised, endsAt, digitsAt, insideAt, cellAt, dotsAt}
 use Rattle.operands.specs.Operands.{characterAt, dotsFault, dotsOperandAt}
 use Rattle.operands.specs.declared.Raised.{Raised}
@@ -59,7 +59,7 @@ byte-small-of charset w = search (either EightBits, if-character EightBits, numb
 -- and its character is a scalar value
 byte-character-in-range : (charset : ℕ) (w : List ℕ) → CharacterInRange (byteCharacterOf charset w)
 unfolding byteCharacterOf
-byte-character-in-range charset w = go (byteOf charset w) (byte-small-of charset w)
+byte-character-in-range charset w = either CharacterInRange (isUnicodeEscape w) tt (go (byteOf charset w) (byte-small-of charset w))
   where
     go : (m : Maybe) → EightBits m → CharacterInRange (ifCharacter m Nothing (λ byte. Character (localCharacter charset byte)))
     go Nothing h = tt

@@ -84,16 +84,16 @@ characterOf w = pick (isScalar (wordNumber w)) (Character (wordNumber w)) Nothin
 abbrev pub isEscape : List ℕ → Bool
 isEscape w = eqb (getD w 0 0) backslash
 
--- \u and \U may not stand in a byte operand
+-- one by \u or \U
 abbrev pub isUnicodeEscape : List ℕ → Bool
 isUnicodeEscape w = isEscape w && (eqb (getD w 1 0) 117 || eqb (getD w 1 0) 85)
 
 -- the byte of a whole word: an escape is that byte in every set, a character written as itself the byte that the set has for it
 unfoldable pub byteOf : ℕ → List ℕ → Maybe
-byteOf charset w =
-    pick (isUnicodeEscape w) Nothing
-    (ifCharacter (characterOf w) Nothing (λ n. pick (isEscape w) (asByte n) (localByte charset n)))
+byteOf charset w = ifCharacter (characterOf w) Nothing (λ n. pick (isEscape w) (asByte n) (localByte charset n))
 
--- a byte operand stands for the character that the set has for its byte
+-- a byte operand stands for the character that the set has for its byte; \u and \U may not stand in it
 unfoldable pub byteCharacterOf : ℕ → List ℕ → Maybe
-byteCharacterOf charset w = ifCharacter (byteOf charset w) Nothing (λ byte. Character (localCharacter charset byte))
+byteCharacterOf charset w =
+    pick (isUnicodeEscape w) Nothing
+    (ifCharacter (byteOf charset w) Nothing (λ byte. Character (localCharacter charset byte)))

@@ -250,14 +250,11 @@ fn number_byte(charset: u32, escape: bool, n: u32) -> Maybe
     unicode::local_byte(charset, n)
 }
 
-// The byte of a whole word in a local character set.
+// The byte of a whole word in a local character set, whatever escape it is.
 pub fn byte_of(charset: u32, w: &[u8]) -> Maybe
     ensures { λ r. ⌜ r ≡ byteOf charset (now (w .entry)) ⌝ }
     ensures { λ r. ⌜ EightBits r ⌝ }
 {
-    if is_unicode_escape(w) {
-        return Maybe::Nothing;
-    }
     match character_of(w) {
         Maybe::Nothing => Maybe::Nothing,
         Maybe::Character(n) => number_byte(charset, is_escape(w), n),
@@ -268,6 +265,9 @@ pub fn byte_of(charset: u32, w: &[u8]) -> Maybe
 fn byte_character_of(charset: u32, w: &[u8]) -> Maybe
     ensures { λ r. ⌜ r ≡ byteCharacterOf charset (now (w .entry)) ⌝ }
 {
+    if is_unicode_escape(w) {
+        return Maybe::Nothing;
+    }
     match byte_of(charset, w) {
         Maybe::Nothing => Maybe::Nothing,
         Maybe::Character(byte) => {

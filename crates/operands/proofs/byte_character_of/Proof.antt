@@ -1,4 +1,4 @@
-use Rattle.basics.proofs.Tests.{on-character}
+use Rattle.basics.proofs.Tests.{chosen, on-character}
 use Rattle.unicode.proofs.Charsets.{eight-bits}
 use Rattle.operands.specs.Characters.{byteCharacterOf}
 use Rattle.operands.proofs.Characters.{its-character}
@@ -12,9 +12,11 @@ byte-character-of-spec =
     tie.close
     (tie.spec
     (λ c κs. search needs)
+    (λ c. search chosen)
+    (λ c κs. search needs)
     (λ c. search needs)
     (λ c. search needs)
     (λ c. search eight-bits)
     (λ c κs. search needs)
-    (λ c. search on-character)
-    (λ c. search (on-character, its-character)))
+    (λ c. search (chosen, on-character))
+    (λ c. search (chosen, on-character, its-character)))

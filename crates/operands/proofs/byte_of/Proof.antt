@@ -1,4 +1,4 @@
-use Rattle.basics.proofs.Tests.{chosen, on-character}
+use Rattle.basics.proofs.Tests.{on-character}
 use Rattle.operands.specs.Characters.{byteOf}
 use Rattle.operands.proofs.Characters.{by-escape}
 use borrow.Author.Needs.{needs}
@@ -11,11 +11,9 @@ byte-of-spec =
     tie.close
     (tie.spec
     (λ c κs. search needs)
-    (λ c. (search chosen, search needs))
-    (λ c κs. search needs)
     (λ c. search needs)
     (λ c. search needs)
     (λ c κs. search needs)
     (λ c κs. search needs)
-    (λ c. (search (chosen, on-character), search needs))
-    (λ c. (search (chosen, on-character, by-escape), search needs)))
+    (λ c. (search on-character, search needs))
+    (λ c. (search (on-character, by-escape), search needs)))
