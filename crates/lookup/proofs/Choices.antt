@@ -82,13 +82,21 @@ module _ (T : Table) (c : ℕ) (w : Walked) (from : w ≡ walkWithCell T c) wher
 pub rule-fits : (T : Table) (last : LastCells) (c : ℕ) (a : Answer) → a ≡ rulesBy T last c → a .rule + 16 < 256
 rule-fits T last c a e = rw e (omega (arith, choose-chosen 3 (explicit T c ∷ endCell T (walk T c) ∷ laterCandidates T last c) (walk T c .links)))
 
--- rule 2: what the other rules answer, of the character as it stands then, in the set that a call answered
-module _ (charset : ℕ) (T : Table) (last : LastCells) (c s l : ℕ) (p : Bool) (a : Answer) (set : s ≡ charset) (local : l ≡ localOf s c) (others : a ≡ rulesBy T last l) (private : p ≡ isPrivate c) where
+-- a character that is not of the private row stays; p is what a call answered of that
+pub local-own : (charset c : ℕ) (p : Bool) → p ≡ isPrivate c → p ≡ false → c ≡ localOf charset c
+unfolding localOf
+local-own charset c p private is = rw (told private is)
+
+pub local-asked : (charset c s : ℕ) {l : ℕ} → s ≡ charset → l ≡ localOf s c → l ≡ localOf charset c
+local-asked charset c s e h = rw e at h
+
+-- rule 2: what the other rules answer, of the character as it stands then
+module _ (charset : ℕ) (T : Table) (last : LastCells) (c l : ℕ) (p : Bool) (a : Answer) (local : l ≡ localOf charset c) (others : a ≡ rulesBy T last l) (private : p ≡ isPrivate c) where
   pub rule-passed : p ≡ true → record { cell = a .cell; rule = a .rule + 16; links = a .links } ≡ passed (isPrivate c) (rulesBy T last (localOf charset c))
-  rule-passed is = rw (told private is, others, local, set)
+  rule-passed is = rw (told private is, others, local)
 
   pub rule-others : p ≡ false → a ≡ passed (isPrivate c) (rulesBy T last (localOf charset c))
-  rule-others is = rw (told private is, others, local, set, add-zero)
+  rule-others is = rw (told private is, others, local, add-zero)
 
 -- the cells of rules 7 and 8, as two calls answered them
 pub both-asked : (T : Table) {replacement question : Cell} → replacement ≡ explicit T 0xFFFD → question ≡ explicit T 0x3F → record { replacement = replacement; question = question } ≡ lastCells T

@@ -10,6 +10,7 @@ ghost use mathlib.Core.List.{map};
 ghost use Prim.Native.Nat.{_+_, _*_, _≤_, _<_};
 ghost use lib.ListN.{length};
 ghost use Rattle.basics.specs.Refusals.{fillingReply};
+ghost use Rattle.unicode.specs.Characters.{localOf};
 ghost use Rattle.table.specs.Words.{charsetOf, tableOf};
 ghost use Rattle.table.specs.Check.{lentTable};
 ghost use Rattle.lookup.specs.Rules.{explicitOf, choose};
@@ -141,6 +142,17 @@ fn rules_from_3(words: &[u32], count: usize, last: LastCells, c: u32) -> Answer
     }
 }
 
+// The character after rule 2, by the set of the words, which only a private-row character asks for.
+fn local_in(words: &[u32], c: u32) -> u32
+    ensures { λ r. ⌜ r ≡ localOf (charsetOf (now (words .entry))) c ⌝ }
+{
+    if unicode::is_private(c) {
+        let charset = table::charset_of(words);
+        return unicode::local_of(charset, c);
+    }
+    c
+}
+
 // The answer for a scalar value, by all the rules.
 fn answer_of(words: &[u32], count: usize, last: LastCells, c: u32) -> Answer
     requires { ⌜ 2 * count ≤ length (now words) ⌝ }
@@ -153,8 +165,7 @@ fn answer_of(words: &[u32], count: usize, last: LastCells, c: u32) -> Answer
             links: 0,
         };
     }
-    let charset = table::charset_of(words);
-    let a = rules_from_3(words, count, last, unicode::local_of(charset, c));
+    let a = rules_from_3(words, count, last, local_in(words, c));
     if unicode::is_private(c) {
         return Answer {
             cell: a.cell,

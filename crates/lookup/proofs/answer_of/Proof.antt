@@ -14,7 +14,6 @@ answer-of-spec =
     (λ c κs. search needs)
     (λ c κs. search needs)
     (λ c κs. search needs)
-    (λ c κs. search needs)
     (λ c. search rule-fits)
     (λ c. search (chosen, rule-passed))
     (λ c. search (chosen, rule-others)))

@@ -1,0 +1,14 @@
+use borrow.Author.Needs.{needs}
+use Rattle.lookup.proofs.Choices.{local-own, local-asked}
+use Rattle.lookup.proofs.local_in.Statement.{statement}
+use Rattle.lookup.proofs.local_in.Tie as tie
+
+pub local-in-spec : {M : Type 1} → statement M
+local-in-spec =
+    tie.close
+    (tie.spec
+    (λ c κs. search needs)
+    (λ c κs. search needs)
+    (λ c κs. search needs)
+    (λ c. search local-asked)
+    (λ c. search local-own))
