@@ -82,11 +82,7 @@ module _ (T : Table) (c : ℕ) (w : Walked) (from : w ≡ walkWithCell T c) wher
 pub rule-fits : (T : Table) (last : LastCells) (c : ℕ) (a : Answer) → a ≡ rulesBy T last c → a .rule + 16 < 256
 rule-fits T last c a e = rw e (omega (arith, choose-chosen 3 (explicit T c ∷ endCell T (walk T c) ∷ laterCandidates T last c) (walk T c .links)))
 
--- a character that is not of the private row stays; p is what a call answered of that
-pub local-own : (charset c : ℕ) (p : Bool) → p ≡ isPrivate c → p ≡ false → c ≡ localOf charset c
-unfolding localOf
-local-own charset c p private is = rw (told private is)
-
+-- the character after rule 2, by the set that a call answered
 pub local-asked : (charset c s : ℕ) {l : ℕ} → s ≡ charset → l ≡ localOf s c → l ≡ localOf charset c
 local-asked charset c s e h = rw e at h
 

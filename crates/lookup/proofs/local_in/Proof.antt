@@ -1,9 +1,12 @@
 use borrow.Author.Needs.{needs}
-use Rattle.lookup.proofs.Choices.{local-own, local-asked}
+use Rattle.basics.proofs.Tests.{chosen}
+use Rattle.unicode.specs.Characters.{localOf}
+use Rattle.lookup.proofs.Choices.{local-asked}
 use Rattle.lookup.proofs.local_in.Statement.{statement}
 use Rattle.lookup.proofs.local_in.Tie as tie
 
 pub local-in-spec : {M : Type 1} → statement M
+unfolding localOf
 local-in-spec =
     tie.close
     (tie.spec
@@ -11,4 +14,4 @@ local-in-spec =
     (λ c κs. search needs)
     (λ c κs. search needs)
     (λ c. search local-asked)
-    (λ c. search local-own))
+    (λ c. search chosen))
