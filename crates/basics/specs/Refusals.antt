@@ -28,6 +28,7 @@ numberOf R.UnclosedBlock = 18
 numberOf R.BeyondPage = 19
 numberOf R.UnknownEdition = 20
 numberOf R.UnknownCharset = 21
+numberOf R.BrailleRow = 22
 
 -- what a call answers: its value, or the number and the place of its refusal
 pub data Reply (A : Type 0) : Type 0 where

@@ -25,6 +25,7 @@ pub enum Refusal {
     BeyondPage,
     UnknownEdition,
     UnknownCharset,
+    BrailleRow,
 }
 
 // A character, where there is one: a base character, a stand-in, an alias target, what a cell types; or the byte that a
@@ -74,5 +75,6 @@ pub fn number_of(refusal: Refusal) -> u8
         Refusal::BeyondPage => 19,
         Refusal::UnknownEdition => 20,
         Refusal::UnknownCharset => 21,
+        Refusal::BrailleRow => 22,
     }
 }

@@ -166,7 +166,8 @@ fn refusal_of(number: u32) -> Refusal {
         18 => Refusal::UnclosedBlock,
         19 => Refusal::BeyondPage,
         20 => Refusal::UnknownEdition,
-        _ => Refusal::UnknownCharset,
+        21 => Refusal::UnknownCharset,
+        _ => Refusal::BrailleRow,
     }
 }
 

@@ -10,11 +10,13 @@ use lib.Dec.{eqb, leb, ltb}
 use lib.ListN.{length, length-append}
 use lib.Seq.{append-snoc}
 use borrow.Author.Tests.{eqb-true, eqb-false, ne-eqb, leb-false, lt-ltb, le-ltb, ltb-true}
-use Rattle.basics.proofs.Tests.{by-test, either}
+use Rattle.basics.proofs.Tests.{by-test, either, same-twice}
 use Rattle.basics.specs.Choice.{pick}
+use Rattle.basics.specs.declared.Maybe.{Maybe}
 use Rattle.basics.specs.declared.Maybe.the-variants as M
 use Rattle.basics.specs.declared.Refusal.{Refusal}
-use Rattle.basics.specs.declared.Refusal.the-variants.{AlreadyDefined, AliasLoop, TableFull}
+use Rattle.basics.specs.declared.Refusal.the-variants.{BrailleRow, AlreadyDefined, AliasLoop, TableFull}
+use Rattle.unicode.specs.Characters.{isBraille}
 use Rattle.definitions.specs.declared.Meaning.{Meaning}
 use Rattle.definitions.specs.declared.Meaning.the-variants.{Typed, Shown, Alias}
 use Rattle.definitions.specs.declared.Definition.{Definition}
@@ -24,13 +26,14 @@ use Rattle.definitions.specs.declared.Verdict.{Verdict}
 use Rattle.definitions.specs.declared.Verdict.the-variants.{Admitted, Refused}
 use Rattle.definitions.specs.Definitions.{find, targetOf, table, aliasOf, walk, isAlias, aliases, WholeWalk}
 use Rattle.definitions.specs.Effects.{isDefined, closesLoop, definitionLimit, verdictOf}
-use Rattle.definitions.proofs.Finds.{orElse, orElse-nothing, find-append, not-found, not-first}
+use Rattle.definitions.proofs.Finds.{orElse, orElse-nothing, find-append, not-found, not-first, alias-found}
 use Rattle.definitions.proofs.Walks.{Reaches, Here, Link, Walks, walk-reached, walk-unique, Ending, none-ending, put, comesTo, put-ending, comes-returns, returns-comes}
 
 -- ---- one definition
 
 -- what a definition that may take effect after others has
 pub record Admissible (ds : List Definition) (d : Definition) : Type 0 where
+  pub plain : isBraille (d .character) ≡ false
   pub fresh : find ds (d .character) ≡ Undefined
   pub opens : closesLoop ds d ≡ false
   pub room : length ds < definitionLimit
@@ -43,20 +46,29 @@ not-refused false r v e = (refl, e)
 pub admissible : (ds : List Definition) (d : Definition) → verdictOf ds d ≡ Admitted → Admissible ds d
 unfolding verdictOf
 admissible ds d e =
-    let new = not-refused (isDefined ds (d .character)) AlreadyDefined _ e in
+    let other = not-refused (isBraille (d .character)) BrailleRow _ e in
+    let new = not-refused (isDefined ds (d .character)) AlreadyDefined _ (other .1) in
     let open-end = not-refused (closesLoop ds d) AliasLoop _ (new .1) in
     let few = not-refused (leb definitionLimit (length ds)) TableFull _ (open-end .1) in
-    record { fresh = not-found (find ds (d .character)) (new .0); opens = open-end .0; room = leb-false definitionLimit (length ds) (few .0) }
+    record { plain = other .0; fresh = not-found (find ds (d .character)) (new .0); opens = open-end .0; room = leb-false definitionLimit (length ds) (few .0) }
 
--- n is how many definitions there are, and f what they say of the character
-module _ (ds : List Definition) (d : Definition) (n : ℕ) {f : Found} (count : length ds ≡ n) (found : f ≡ find ds (d .character)) where
-  pub judged-defined : {m : Meaning} → f ≡ Is m → Refused AlreadyDefined ≡ verdictOf ds d
+-- b is what a call answered of the character's row
+module _ (ds : List Definition) (d : Definition) {b : Bool} (row : b ≡ isBraille (d .character)) where
+  pub judged-braille : b ≡ true → Refused BrailleRow ≡ verdictOf ds d
   unfolding verdictOf
-  judged-defined e = rw (← found, e)
+  judged-braille h = rw (← row, h)
 
-  pub judged-new : {v : Verdict} → f ≡ Undefined → v ≡ pick (closesLoop ds d) (Refused AliasLoop) (pick (leb definitionLimit n) (Refused TableFull) Admitted) → v ≡ verdictOf ds d
-  unfolding verdictOf
-  judged-new e h = rw (← found, e, ap (leb definitionLimit) count) h
+  -- n is how many definitions there are, and f what they say of the character
+  module _ (n : ℕ) {f : Found} (other : b ≡ false) (count : length ds ≡ n) (found : f ≡ find ds (d .character)) where
+    pub judged-defined : {m : Meaning} → f ≡ Is m → Refused AlreadyDefined ≡ verdictOf ds d
+    unfolding verdictOf
+    judged-defined e = rw (← row, other, ← found, e)
+
+    pub judged-new : {v : Verdict} → f ≡ Undefined → v ≡ pick (closesLoop ds d) (Refused AliasLoop) (pick (leb definitionLimit n) (Refused TableFull) Admitted) → v ≡ verdictOf ds d
+    unfolding verdictOf
+    judged-new e h = rw (← row, other, ← found, e, ap (leb definitionLimit) count) h
+
+pub ruleset judged = (judged-braille, judged-defined, judged-new)
 
 -- ---- definitions one after the other
 
@@ -101,19 +113,22 @@ distinct ds h = admits-keep Distinct (λ es d p a. distinct-new es d p (a .fresh
 -- ---- the aliases of definitions
 
 alias-fresh : (ds : List Definition) (c : ℕ) → find ds c ≡ Undefined → aliasOf (table ds) c ≡ M.Nothing
-unfolding aliasOf
-alias-fresh ds c e = rw e
+alias-fresh ds c e = rw (alias-found ds c, e) (same-twice (isBraille c) M.Nothing)
 
--- one definition more, for a character without one
-alias-new : (ds : List Definition) (d : Definition) → find ds (d .character) ≡ Undefined
+-- one definition more, for a character without one that is not of the braille row
+alias-new : (ds : List Definition) (d : Definition) → isBraille (d .character) ≡ false → find ds (d .character) ≡ Undefined
     → aliasOf (table (ds ++ d ∷ [])) ≡ put (aliasOf (table ds)) (d .character) (targetOf (Is (d .meaning)))
-unfolding aliasOf find
-alias-new ds d f = fun-ext (λ c. rw (find-append ds (d ∷ []) c) (go c (eqb (d .character) c) refl))
+unfolding find
+alias-new ds d plain fresh =
+    fun-ext (λ c. rw (alias-found (ds ++ d ∷ []) c, alias-found ds c, find-append ds (d ∷ []) c) (go c (isBraille c) (eqb (d .character) c) refl refl))
   where
-    go : (c : ℕ) (b : Bool) → eqb (d .character) c ≡ b
-        → targetOf (orElse (find ds c) (pick b (Is (d .meaning)) Undefined)) ≡ pick b (targetOf (Is (d .meaning))) (targetOf (find ds c))
-    go c true p = rw (← eqb-true (d .character) c p, f)
-    go c false p = rw orElse-nothing
+    go : (c : ℕ) (braille same : Bool) → isBraille c ≡ braille → eqb (d .character) c ≡ same
+        → pick braille M.Nothing (targetOf (orElse (find ds c) (pick same (Is (d .meaning)) Undefined)))
+        ≡ pick same (targetOf (Is (d .meaning))) (pick braille M.Nothing (targetOf (find ds c)))
+    go c true true p q = absurd (let z : _≡_ {A = ℕ} 0 1 = cc (p, plain, eqb-true (d .character) c q) in omega arith)
+    go c true false p q = refl
+    go c false true p q = rw (← eqb-true (d .character) c q, fresh)
+    go c false false p q = rw orElse-nothing
 
 -- ---- a whole walk has no more links than there are aliases
 
@@ -177,11 +192,14 @@ AllEnd ds = Ending (aliasOf (table ds))
 module _ (ds : List Definition) (v : AllEnd ds) where
   -- the characters on a walk have fewer and fewer links to its end, so each counts
   links-nearer : {c e k : ℕ} → Reaches (aliasOf (table ds)) c k e → aliasOf (table ds) e ≡ M.Nothing → k ≤ nearer (λ x. v x .links) (suc k) ds
-  unfolding aliasOf
   links-nearer Here h = omega arith
   links-nearer (Link {c = c} {k = k} g r) h =
       let same = walk-unique (v c .walks) (record { way = Link g r; ended = h }) in
-      omega (arith, links-nearer r h, nearer-more (λ x. v x .links) (suc k) ds (same .1) g)
+      omega (arith, links-nearer r h, nearer-more (λ x. v x .links) (suc k) ds (same .1) (said (isBraille c) (rw (alias-found ds c) at g)))
+    where
+      said : (b : Bool) {m : Maybe} {t : ℕ} → pick b M.Nothing m ≡ M.Character t → m ≡ M.Character t
+      said true e = cc
+      said false e = e
 
   links-aliases : (c : ℕ) → v c .links ≤ aliases ds
   links-aliases c = omega (arith, links-nearer (v c .walks .way) (v c .walks .ended), nearer-all (λ x. v x .links) (suc (v c .links)) ds)
@@ -196,12 +214,12 @@ module _ (ds : List Definition) (v : AllEnd ds) where
 
 end-new : (ds : List Definition) (d : Definition) → AllEnd ds → Admissible ds d → AllEnd (ds ++ d ∷ [])
 end-new ds d v a =
-    rw (alias-new ds d (a .fresh))
+    rw (alias-new ds d (a .plain) (a .fresh))
     (put-ending (aliasOf (table ds)) v (d .character) (alias-fresh ds (d .character) (a .fresh)) (targetOf (Is (d .meaning))) (rw (loop-comes ds v d) at (a .opens)))
 
 all-end : (ds : List Definition) → Admits [] ds → AllEnd ds
-unfolding aliasOf find
-all-end ds h = admits-keep AllEnd end-new ds [] none-ending h
+unfolding find
+all-end ds h = let none : aliasOf (table []) ≡ (λ c. M.Nothing) = fun-ext (λ c. alias-fresh [] c refl) in admits-keep AllEnd end-new ds [] (rw none none-ending) h
 
 -- the walk of a table, as it is computed, is a whole walk
 pub walk-walks : (ds : List Definition) → Admits [] ds → (c : ℕ) → Walks (aliasOf (table ds)) c (walk (table ds) c .end) (walk (table ds) c .links)
@@ -217,11 +235,11 @@ whole-walk ds h c = let v = all-end ds h in record { ends = walk-walks ds h c .e
 abbrev pub Returns : List Definition → ℕ → Type 0
 Returns ds c = (k : ℕ) × (1 ≤ k) × Reaches (aliasOf (table ds)) c k c
 
--- a definition of a character without one closes a loop exactly if with it a walk from that character comes back there
-pub loop-returns : (ds : List Definition) (d : Definition) → Admits [] ds → find ds (d .character) ≡ Undefined
+-- a definition of a character without one, not of the braille row, closes a loop exactly if with it a walk from that character comes back there
+pub loop-returns : (ds : List Definition) (d : Definition) → Admits [] ds → isBraille (d .character) ≡ false → find ds (d .character) ≡ Undefined
     → (closesLoop ds d ≡ true) ↔ Returns (ds ++ d ∷ []) (d .character)
-loop-returns ds d h fresh =
+loop-returns ds d h plain fresh =
     let v = all-end ds h in
     let free = alias-fresh ds (d .character) fresh in
-    rw (loop-comes ds v d, alias-new ds d fresh)
+    rw (loop-comes ds v d, alias-new ds d plain fresh)
     (comes-returns (aliasOf (table ds)) v (d .character) free (targetOf (Is (d .meaning))), returns-comes (aliasOf (table ds)) v (d .character) free (targetOf (Is (d .meaning))))

@@ -1,15 +1,19 @@
 -- What is found where definitions follow others: in either part, kept by later ones, the same where no later one is for the character.
-use Prim.Native.Nat.{ℕ}
+use Prim.Native.Nat.{ℕ, _%_}
 use mathlib.Core.Path.{_≡_, refl}
 use mathlib.Core.Bool.{Bool, true, false}
 use mathlib.Core.List.{List, [], _∷_, _++_}
 use lib.Dec.{eqb}
 use Rattle.basics.specs.Choice.{pick}
+use Rattle.basics.specs.declared.Maybe.the-variants as M
+use Rattle.basics.proofs.Tests.{by-cases}
+use Rattle.unicode.specs.Characters.{isBraille}
 use Rattle.definitions.specs.declared.Meaning.{Meaning}
+use Rattle.definitions.specs.declared.Meaning.the-variants.{Shown}
 use Rattle.definitions.specs.declared.Definition.{Definition}
 use Rattle.definitions.specs.declared.Found.{Found}
 use Rattle.definitions.specs.declared.Found.the-variants.{Undefined, Is}
-use Rattle.definitions.specs.Definitions.{find}
+use Rattle.definitions.specs.Definitions.{find, foundIn, targetOf, table, aliasOf}
 use Rattle.definitions.specs.Effects.{isFound, isDefined}
 
 -- the first that is found
@@ -41,9 +45,20 @@ not-first true m f e = (cc, cc)
 not-first false m f e = (refl, e)
 
 -- what is found stays found
-pub found-kept : (ds rs : List Definition) (c : ℕ) (m : Meaning) → find ds c ≡ Is m → find (ds ++ rs) c ≡ Is m
-found-kept ds rs c m e = rw (find-append, e)
+pub found-kept : (ds rs : List Definition) (c : ℕ) (m : Meaning) → foundIn ds c ≡ Is m → foundIn (ds ++ rs) c ≡ Is m
+unfolding foundIn
+found-kept ds rs c m = rw (find-append ds rs c) (go (isBraille c))
+  where
+    go : (b : Bool) → pick b (Is (Shown (c % 256))) (find ds c) ≡ Is m → pick b (Is (Shown (c % 256))) (orElse (find ds c) (find rs c)) ≡ Is m
+    go true e = e
+    go false e = rw e
 
 -- the same where no later definition is for the character
-pub found-same : (ds rs : List Definition) (c : ℕ) → isDefined rs c ≡ false → find (ds ++ rs) c ≡ find ds c
-found-same ds rs c h = rw (find-append, not-found (find rs c) h) (orElse-nothing (find ds c))
+pub found-same : (ds rs : List Definition) (c : ℕ) → isDefined rs c ≡ false → foundIn (ds ++ rs) c ≡ foundIn ds c
+unfolding foundIn
+found-same ds rs c h = rw (find-append, not-found (find rs c) h, orElse-nothing)
+
+-- an alias is found where a definition says it, but none of the braille row
+pub alias-found : (ds : List Definition) (c : ℕ) → aliasOf (table ds) c ≡ pick (isBraille c) M.Nothing (targetOf (find ds c))
+unfolding aliasOf foundIn
+alias-found ds c = by-cases (isBraille c) (λ e. rw e) (λ e. rw e)

@@ -1,5 +1,5 @@
 -- Definitions in order of effect: what a character means, its explicit cell, its alias walk, what a cell types.
-use Prim.Native.Nat.{ℕ, zero, suc, _+_, _≤_}
+use Prim.Native.Nat.{ℕ, zero, suc, _+_, _%_, _≤_}
 use mathlib.Core.Path.{_≡_}
 use mathlib.Core.Bool.{Bool, false}
 use mathlib.Core.List.{List, [], _∷_}
@@ -8,6 +8,7 @@ use lib.Dec.{eqb}
 use Rattle.basics.specs.Choice.{pick}
 use Rattle.basics.specs.declared.Maybe.{Maybe}
 use Rattle.basics.specs.declared.Maybe.the-variants as M
+use Rattle.unicode.specs.Characters.{isBraille}
 use Rattle.definitions.specs.declared.Meaning.{Meaning}
 use Rattle.definitions.specs.declared.Meaning.the-variants.{Typed, Shown, Alias}
 use Rattle.definitions.specs.declared.Definition.{Definition}
@@ -23,6 +24,10 @@ find [] c = Undefined
 find (d ∷ ds) c =
     let rest : Found = find ds c in
     pick (eqb (d .character) c) (Is (d .meaning)) rest
+
+-- what is found for a character: a character of the braille row shows its low eight bits, any other what its definition says
+unfoldable pub foundIn : List Definition → ℕ → Found
+foundIn ds c = pick (isBraille c) (Is (Shown (c % 256))) (find ds c)
 
 -- the first two meanings are explicit
 abbrev pub cellOf : Found → Cell
@@ -44,7 +49,7 @@ pub record Table : Type 0 where
 
 -- the table of some definitions. No walk that ends has more links than there are definitions (a law says so)
 abbrev pub table : List Definition → Table
-table ds = record { found = find ds; budget = length ds }
+table ds = record { found = foundIn ds; budget = length ds }
 
 -- a character's explicit cell, and its alias target
 unfoldable pub explicit : Table → ℕ → Cell

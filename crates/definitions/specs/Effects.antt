@@ -1,11 +1,12 @@
--- What refuses a definition that is to take effect after others: 11, 12, 13, in this order.
+-- What refuses a definition that is to take effect after others: 22, 11, 12, 13, in this order.
 use Prim.Native.Nat.{ℕ}
 use mathlib.Core.Bool.{Bool, true, false}
 use mathlib.Core.List.{List}
 use lib.ListN.{length}
 use lib.Dec.{eqb, leb}
 use Rattle.basics.specs.Choice.{pick, ifCharacter}
-use Rattle.basics.specs.declared.Refusal.the-variants.{AlreadyDefined, AliasLoop, TableFull}
+use Rattle.basics.specs.declared.Refusal.the-variants.{BrailleRow, AlreadyDefined, AliasLoop, TableFull}
+use Rattle.unicode.specs.Characters.{isBraille}
 use Rattle.definitions.specs.declared.Definition.{Definition}
 use Rattle.definitions.specs.declared.Found.{Found}
 use Rattle.definitions.specs.declared.Found.the-variants.{Undefined, Is}
@@ -32,7 +33,8 @@ definitionLimit = 1024
 
 unfoldable pub verdictOf : List Definition → Definition → Verdict
 verdictOf ds d =
-    pick (isDefined ds (d .character)) (Refused AlreadyDefined)
+    pick (isBraille (d .character)) (Refused BrailleRow)
+    (pick (isDefined ds (d .character)) (Refused AlreadyDefined)
     (pick (closesLoop ds d) (Refused AliasLoop)
     (pick (leb definitionLimit (length ds)) (Refused TableFull)
-    Admitted))
+    Admitted)))

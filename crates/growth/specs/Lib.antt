@@ -4,3 +4,4 @@ pub mod Blocks
 pub mod Columns
 pub mod Editions
 pub mod Charsets
+pub mod Rows

@@ -6,7 +6,7 @@ use mathlib.Core.List.{List, [], _∷_}
 use lib.Dec.{eqb}
 use lib.ListN.{getD, replicate}
 use Rattle.basics.specs.Ascii.{ascii}
-use Rattle.basics.specs.Choice.{isCharacter}
+use Rattle.basics.specs.Choice.{ifCharacter, isCharacter}
 use Rattle.basics.specs.Refusals.{Reply, answered, refused}
 use Rattle.lines.specs.Texts.{outcomeColumn}
 use Rattle.table.specs.Words.{tableWords}
@@ -27,7 +27,8 @@ smallAttributes = "dot 1 =fg-red\ndot 4 ~bg-blue\n"
 pub data Case : Type 0 where
   -- a local character set, a text table and a character: its cell, rule and links
   showsIn : ℕ → String → ℕ → ℕ → ℕ → ℕ → Case
-  -- a text table and a cell that types nothing
+  -- a text table and a cell: the character that it enters; one that types nothing
+  enters : String → ℕ → ℕ → Case
   typesNothing : String → ℕ → Case
   -- an attributes table and an attribute byte: its cell
   raises : String → ℕ → ℕ → Case
@@ -80,6 +81,7 @@ isCount (refused number line) count = false
 -- whether a case comes out as it is written
 unfoldable pub comesOut : Case → Bool
 comesOut (showsIn charset text c cell rule links) = isAnswer (lookupReply (wordsFor charset text) c) cell rule links
+comesOut (enters text cell c) = ifCharacter (typedBy (wordsFor 1 text) cell) false (λ typed. eqb typed c)
 comesOut (typesNothing text cell) = not (isCharacter (typedBy (wordsFor 1 text) cell))
 comesOut (raises text byte cell) = eqb (attributeCell (outcomePlaces (compiledAttributes (ascii text))) byte) cell
 comesOut (refuses text number line column) =

@@ -14,7 +14,7 @@ use Rattle.lines.specs.declared.Compiled.{Compiled}
 use Rattle.definitions.specs.declared.Definition.{Definition}
 use Rattle.definitions.specs.Definitions.{types, typedIn}
 use Rattle.table.specs.Check.{lentTable}
-use Rattle.table.proofs.Readback.{AllInRange, scalar-small, lent-in-range}
+use Rattle.table.proofs.Readback.{AllInRange, operand-small, lent-in-range}
 use Rattle.lookup.specs.Calls.{over}
 use Rattle.lookup.proofs.Buffers.{filledTo, filled-more, filled-all}
 use Rattle.typing.specs.declared.Entry.{Entry}
@@ -78,7 +78,7 @@ typed-small : (ds : List Definition) → AllInRange ds → (cell : ℕ) → char
 unfolding typedIn
 typed-small [] f cell = omega arith
 typed-small (d ∷ ds) f cell =
-    either (λ (m : Maybe). characterCode m < 2 ^ 32) (types (d .meaning) cell) (omega (arith, scalar-small (d .character) (f .0 .character))) (typed-small ds (f .1) cell)
+    either (λ (m : Maybe). characterCode m < 2 ^ 32) (types (d .meaning) cell) (omega (arith, operand-small (d .character) (f .0 .character))) (typed-small ds (f .1) cell)
 
 pub entries-fit : (ws : List ℕ) {es : List Entry} → es ≡ typingEntries ws → EntriesFit es
 entries-fit ws e = rw e (go (lentTable ws) refl)

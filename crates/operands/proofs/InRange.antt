@@ -1,4 +1,4 @@
--- What operands answer is in range: a character is a scalar value, dots are those of one cell.
+-- What operands answer is in range: a character is one that an operand can stand for, dots are those of one cell.
 use Prim.Native.Nat.{ℕ, suc, _+_, _-_, _*_, _/_, _%_, _^_, _<_}
 use mathlib.Core.Path.{_≡_, refl}
 use mathlib.Core.Bool.{Bool, true, _&&_}
@@ -12,10 +12,10 @@ use Rattle.basics.specs.Choice.{ifCharacter}
 use Rattle.basics.proofs.Tests.{by-test, either, both}
 use Rattle.basics.specs.declared.Maybe.{Maybe}
 use Rattle.basics.specs.declared.Maybe.the-variants.{Nothing, Character}
-use Rattle.unicode.specs.Characters.{isScalar, asByte, localCharacter, localByte}
+use Rattle.unicode.specs.Characters.{isScalar, isOperand, asByte, localCharacter, localByte}
 use Rattle.unicode.specs.Internal.{EightBits}
-use Rattle.unicode.proofs.Charsets.{local-scalar, local-small}
-use Rattle.operands.specs.Characters.{characterOf, isUnicodeEscape, byteOf, byteCharacterOf}
+use Rattle.unicode.proofs.Charsets.{local-operand, replaced-operand, local-small}
+use Rattle.operands.specs.Characters.{characterOf, operandOf, isUnicodeEscape, byteOf, byteCharacterOf}
 use Rattle.operands.specs.Dots.{raiseBy, raise, raiseInside, ifRaised, endsAt, digitsAt, insideAt, cellAt, dotsAt}
 use Rattle.operands.specs.Operands.{characterAt, dotsFault, dotsOperandAt}
 use Rattle.operands.specs.declared.Raised.{Raised}
@@ -27,23 +27,28 @@ use Rattle.operands.specs.declared.Operand.the-variants as O
 use Rattle.operands.specs.declared.DotsOperand.{DotsOperand}
 use Rattle.operands.specs.declared.DotsOperand.the-variants as D
 
--- ---- characters: each answer is a scalar value
+-- ---- characters: a word's is a scalar value, and what it is replaced by is in no row of rule 2
 
-abbrev CharacterInRange : Maybe → Type 0
-CharacterInRange Nothing = Unit
-CharacterInRange (Character c) = isScalar c ≡ true
+-- what is so of a character, if there is one
+abbrev Of : (ℕ → Bool) → Maybe → Type 0
+Of test Nothing = Unit
+Of test (Character c) = test c ≡ true
 
 abbrev pub OperandInRange : Operand → Type 0
 OperandInRange (O.Fault refusal left) = Unit
-OperandInRange (O.Value c after) = isScalar c ≡ true
+OperandInRange (O.Value c after) = isOperand c ≡ true
 
-character-in-range : (w : List ℕ) → CharacterInRange (characterOf w)
+if-character : {A : Type 0} (P : A → Type 0) (test : ℕ → Bool) (m : Maybe) {none : A} {some : ℕ → A} → P none → ((c : ℕ) → test c ≡ true → P (some c)) → Of test m → P (ifCharacter m none some)
+if-character P test Nothing n s h = n
+if-character P test (Character c) n s h = s c h
+
+character-in-range : (w : List ℕ) → Of isScalar (characterOf w)
 unfolding characterOf
-character-in-range w = search (by-test CharacterInRange)
+character-in-range w = search (by-test (Of isScalar))
 
-if-character : {A : Type 0} (P : A → Type 0) (m : Maybe) {none : A} {some : ℕ → A} → P none → ((c : ℕ) → isScalar c ≡ true → P (some c)) → CharacterInRange m → P (ifCharacter m none some)
-if-character P Nothing n s h = n
-if-character P (Character c) n s h = s c h
+operand-in-range : (charset : ℕ) (w : List ℕ) → Of isOperand (operandOf charset w)
+unfolding operandOf
+operand-in-range charset w = if-character (Of isOperand) isScalar (characterOf w) tt (replaced-operand charset) (character-in-range w)
 
 -- a byte has eight bits, however it is written
 number-small : (n : ℕ) → EightBits (asByte n)
@@ -54,20 +59,20 @@ set-small charset n = local-small charset n refl
 
 byte-small-of : (charset : ℕ) (w : List ℕ) → EightBits (byteOf charset w)
 unfolding byteOf
-byte-small-of charset w = search (either EightBits, if-character EightBits, number-small, set-small charset, character-in-range)
+byte-small-of charset w = search (either EightBits, if-character EightBits isScalar, number-small, set-small charset, character-in-range)
 
--- and its character is a scalar value
-byte-character-in-range : (charset : ℕ) (w : List ℕ) → CharacterInRange (byteCharacterOf charset w)
+-- and its character is in range too
+byte-character-in-range : (charset : ℕ) (w : List ℕ) → Of isOperand (byteCharacterOf charset w)
 unfolding byteCharacterOf
-byte-character-in-range charset w = either CharacterInRange (isUnicodeEscape w) tt (go (byteOf charset w) (byte-small-of charset w))
+byte-character-in-range charset w = either (Of isOperand) (isUnicodeEscape w) tt (go (byteOf charset w) (byte-small-of charset w))
   where
-    go : (m : Maybe) → EightBits m → CharacterInRange (ifCharacter m Nothing (λ byte. Character (localCharacter charset byte)))
+    go : (m : Maybe) → EightBits m → Of isOperand (ifCharacter m Nothing (λ byte. Character (localCharacter charset byte)))
     go Nothing h = tt
-    go (Character byte) h = local-scalar charset byte h
+    go (Character byte) h = local-operand charset byte h
 
 pub value-in-range : (charset : ℕ) (byte : Bool) (line : List ℕ) (at : ℕ) → OperandInRange (characterAt charset byte line at)
 unfolding characterAt
-value-in-range charset byte line at = search (either OperandInRange, if-character OperandInRange, either CharacterInRange, byte-character-in-range, character-in-range)
+value-in-range charset byte line at = search (either OperandInRange, if-character OperandInRange isOperand, either (Of isOperand), byte-character-in-range, operand-in-range)
 
 -- ---- dots: each answer is a cell
 

@@ -10,7 +10,7 @@ use Rattle.basics.specs.declared.Refusal.the-variants.{MissingOperand}
 use Rattle.lines.specs.declared.Word.{Word}
 use Rattle.lines.specs.Words.{wordAt, bytesOf, isMissing}
 use Rattle.operands.specs.Internal.{CellWithin, OperandWithin, DotsWithin}
-use Rattle.operands.specs.Characters.{characterOf, byteCharacterOf}
+use Rattle.operands.specs.Characters.{operandOf, byteCharacterOf}
 use Rattle.operands.specs.Dots.{dotsAt, cellAt}
 use Rattle.operands.specs.Operands.{wordOperand, characterAt, dotsFault, dotsOperandAt, ifValue, ifDotsValue}
 use Rattle.operands.specs.declared.Operand.{Operand}
@@ -32,7 +32,7 @@ dots-within o cell after n h q = rw q at h
 
 -- an operand by the word w that a call found
 module _ (kind : Bool) (line : List ℕ) (at : ℕ) (w : Word) (e : w ≡ wordAt line at) where
-  pub by-word : (charset : ℕ) {v : Operand} → v ≡ pick (isMissing w) (O.Fault MissingOperand 0) (wordOperand (pick kind (byteCharacterOf charset (bytesOf line w)) (characterOf (bytesOf line w))) line w) → v ≡ characterAt charset kind line at
+  pub by-word : (charset : ℕ) {v : Operand} → v ≡ pick (isMissing w) (O.Fault MissingOperand 0) (wordOperand (pick kind (byteCharacterOf charset (bytesOf line w)) (operandOf charset (bytesOf line w))) line w) → v ≡ characterAt charset kind line at
   unfolding characterAt
   by-word charset q = rw (← e) q
 

@@ -8,7 +8,7 @@ use lib.Dec.{ltb, leb, eqb}
 use Rattle.basics.specs.Choice.{pick, ifCharacter}
 use Rattle.basics.specs.declared.Maybe.{Maybe}
 use Rattle.basics.specs.declared.Maybe.the-variants.{Nothing, Character}
-use Rattle.unicode.specs.Characters.{isScalar, asByte, localCharacter, localByte}
+use Rattle.unicode.specs.Characters.{isScalar, asByte, localCharacter, localByte, localOf}
 
 abbrev pub noNumber : ℕ
 noNumber = 0x110000
@@ -77,9 +77,13 @@ wordNumber w =
     (pick (ltb (length w) 3) (shortOf (getD w 1 0)) digits)
     (plainOf w)
 
--- the result must be a Unicode scalar value
+-- the character of a whole word: it must be a Unicode scalar value
 unfoldable pub characterOf : List ℕ → Maybe
 characterOf w = pick (isScalar (wordNumber w)) (Character (wordNumber w)) Nothing
+
+-- a character operand stands for that character, one of the private row for its local character
+unfoldable pub operandOf : ℕ → List ℕ → Maybe
+operandOf charset w = ifCharacter (characterOf w) Nothing (λ c. Character (localOf charset c))
 
 abbrev pub isEscape : List ℕ → Bool
 isEscape w = eqb (getD w 0 0) backslash

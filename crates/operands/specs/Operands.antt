@@ -9,7 +9,7 @@ use Rattle.basics.specs.declared.Refusal.the-variants.{MissingOperand, BadChara
 use Rattle.basics.specs.declared.Maybe.{Maybe}
 use Rattle.lines.specs.declared.Word.{Word}
 use Rattle.lines.specs.Words.{wordAt, bytesOf, isMissing}
-use Rattle.operands.specs.Characters.{characterOf, byteCharacterOf}
+use Rattle.operands.specs.Characters.{operandOf, byteCharacterOf}
 use Rattle.operands.specs.Dots.{dotsAt, cellAt}
 use Rattle.operands.specs.declared.Operand.{Operand}
 use Rattle.operands.specs.declared.Operand.the-variants as O
@@ -26,7 +26,7 @@ wordOperand value line w = ifCharacter value (O.Fault BadCharacter (length line 
 unfoldable pub characterAt : ℕ → Bool → List ℕ → ℕ → Operand
 characterAt charset byte line at =
     let w : Word = wordAt line at in
-    pick (isMissing w) (O.Fault MissingOperand 0) (wordOperand (pick byte (byteCharacterOf charset (bytesOf line w)) (characterOf (bytesOf line w))) line w)
+    pick (isMissing w) (O.Fault MissingOperand 0) (wordOperand (pick byte (byteCharacterOf charset (bytesOf line w)) (operandOf charset (bytesOf line w))) line w)
 
 abbrev pub dotsFault : CellRead → ℕ → DotsOperand
 dotsFault Bad left = D.Fault BadDots left

@@ -7,7 +7,7 @@ use lines::next_word;
 ghost use mathlib.Core.Path.{_≡_};
 ghost use Prim.Native.Nat.{_+_, _*_, _^_, _%_, _/_, _≤_, _<_};
 ghost use lib.ListN.{length, drop};
-ghost use Rattle.operands.specs.Characters.{noNumber, digitOf, withDigit, digitsFrom, plainOf, shortOf, radixOf, wordNumber, characterOf, isUnicodeEscape, isEscape, byteOf, byteCharacterOf};
+ghost use Rattle.operands.specs.Characters.{noNumber, digitOf, withDigit, digitsFrom, plainOf, shortOf, radixOf, wordNumber, characterOf, operandOf, isUnicodeEscape, isEscape, byteOf, byteCharacterOf};
 ghost use Rattle.basics.specs.Choice.{pick};
 ghost use Rattle.unicode.specs.Characters.{asByte, localByte};
 ghost use Rattle.unicode.specs.Internal.{EightBits};
@@ -213,6 +213,19 @@ pub fn character_of(w: &[u8]) -> Maybe
     Maybe::Nothing
 }
 
+// The character that a character operand stands for.
+fn operand_of(charset: u32, w: &[u8]) -> Maybe
+    ensures { λ r. ⌜ r ≡ operandOf charset (now (w .entry)) ⌝ }
+{
+    match character_of(w) {
+        Maybe::Nothing => Maybe::Nothing,
+        Maybe::Character(c) => {
+            let local = unicode::local_of(charset, c);
+            Maybe::Character(local)
+        }
+    }
+}
+
 // Whether a word is an escape by `\u` or `\U`.
 fn is_unicode_escape(w: &[u8]) -> bool
     ensures { λ r. ⌜ r ≡ isUnicodeEscape (now (w .entry)) ⌝ }
@@ -278,12 +291,12 @@ fn byte_character_of(charset: u32, w: &[u8]) -> Maybe
 
 // The character of a whole word of the operand kind that `byte` says.
 fn word_value(charset: u32, w: &[u8], byte: bool) -> Maybe
-    ensures { λ r. ⌜ r ≡ pick byte (byteCharacterOf charset (now (w .entry))) (characterOf (now (w .entry))) ⌝ }
+    ensures { λ r. ⌜ r ≡ pick byte (byteCharacterOf charset (now (w .entry))) (operandOf charset (now (w .entry))) ⌝ }
 {
     if byte {
         return byte_character_of(charset, w);
     }
-    character_of(w)
+    operand_of(charset, w)
 }
 
 // The next word from `at` on as a character operand, or, where `byte` holds, as a byte operand in a local character set.

@@ -10,7 +10,7 @@ use borrow.Author.Tests.{le-leb, eqb-false}
 use Rattle.basics.specs.Ascii.{ascii}
 use Rattle.basics.specs.Choice.{pick}
 use Rattle.basics.specs.declared.Refusal.{Refusal}
-use Rattle.unicode.specs.Characters.{isScalar}
+use Rattle.unicode.specs.Characters.{isOperand}
 use Rattle.lines.specs.Words.{wordAt, bytesOf, sameBytes, isOver}
 use Rattle.lines.specs.Texts.{openingOf, ifDirective}
 use Rattle.lines.specs.declared.Opening.{Opening}
@@ -50,7 +50,7 @@ FrontInRange room (Condition holds rest) = Unit
 
 -- what holds of a fault and of each answer in range holds of what follows from an operand
 module _ {A : Type 0} (P : A → Type 0) (bad : Refusal → ℕ → A) (fault : (refusal : Refusal) (left : ℕ) → P (bad refusal left)) where
-  each-value : (charset : ℕ) (byte : Bool) (line : List ℕ) (at : ℕ) (good : ℕ → ℕ → A) → ((c after : ℕ) → isScalar c ≡ true → P (good c after))
+  each-value : (charset : ℕ) (byte : Bool) (line : List ℕ) (at : ℕ) (good : ℕ → ℕ → A) → ((c after : ℕ) → isOperand c ≡ true → P (good c after))
       → P (ifValue (characterAt charset byte line at) bad good)
   each-value charset byte line at good h = go (characterAt charset byte line at) (value-in-range charset byte line at)
     where

@@ -13,7 +13,8 @@ use Rattle.basics.specs.Choice.{pick}
 use Rattle.basics.proofs.Tests.{both, by-test}
 use Rattle.basics.proofs.Loops.{two-more}
 use Rattle.basics.specs.Refusals.{Reply, answered}
-use Rattle.unicode.specs.Characters.{isScalar, isCharset}
+use Rattle.unicode.specs.Characters.{isBraille, isOperand, isCharset}
+use Rattle.unicode.proofs.Charsets.{operand-scalar}
 use Rattle.definitions.specs.declared.Meaning.{Meaning}
 use Rattle.definitions.specs.declared.Meaning.the-variants.{Typed, Shown, Alias}
 use Rattle.definitions.specs.declared.Definition.{Definition}
@@ -21,7 +22,7 @@ use Rattle.definitions.specs.declared.Verdict.the-variants.{Admitted}
 use Rattle.definitions.specs.Effects.{definitionLimit, isDefined, closesLoop, verdictOf}
 use Rattle.definitions.proofs.Admission.{admissible, Admits, admits-limit}
 use Rattle.table.specs.Words.{pairWords, tableWords, kindUnit, wordOf, wordsOf, pairsOf, imageOf, charsetOf, isSoundWord, meaningOf, definitionOf, definitions}
-use Rattle.table.specs.Check.{isZeroPair, isSoundPair, isFresh, zeroFrom, checkFrom, isSoundEnd, andEnd, checkOf, checkedTable, lentTable}
+use Rattle.table.specs.Check.{isZeroPair, isDefinable, isSoundPair, isFresh, zeroFrom, checkFrom, isSoundEnd, andEnd, checkOf, checkedTable, lentTable}
 use Rattle.table.specs.declared.Checked.{Checked}
 use Rattle.table.specs.declared.Checked.the-variants.{Sound, FaultAt}
 
@@ -30,20 +31,20 @@ use Rattle.table.specs.declared.Checked.the-variants.{Sound, FaultAt}
 abbrev pub isNumberInRange : Meaning → Bool
 isNumberInRange (Typed dots) = leb dots 255
 isNumberInRange (Shown dots) = leb dots 255
-isNumberInRange (Alias target) = isScalar target
+isNumberInRange (Alias target) = isOperand target
 
--- a character that is a scalar value, dots of one cell, a target that is a scalar value
+-- a character and a target that an operand can stand for, dots of one cell
 pub record InRange (d : Definition) : Type 0 where
-  pub character : isScalar (d .character) ≡ true
+  pub character : isOperand (d .character) ≡ true
   pub number : isNumberInRange (d .meaning) ≡ true
 
 abbrev pub AllInRange : List Definition → Type 0
 AllInRange [] = Unit
 AllInRange (d ∷ ds) = InRange d × AllInRange ds
 
--- a scalar value leaves the kind of a second word alone
-pub scalar-small : (c : ℕ) → isScalar c ≡ true → c < kindUnit
-scalar-small c = go (ltb c 0xD800) refl
+-- it leaves the kind of a second word alone
+pub operand-small : (c : ℕ) → isOperand c ≡ true → c < kindUnit
+operand-small c h = go (ltb c 0xD800) refl (operand-scalar c h)
   where
     go : (b : Bool) → ltb c 0xD800 ≡ b → (b || (leb 0xE000 c && ltb c 0x110000)) ≡ true → c < kindUnit
     go true p e = omega (arith, ltb-true c 0xD800 p)
@@ -63,7 +64,7 @@ pub word-says : (m : Meaning) → isNumberInRange m ≡ true → (isSoundWord (w
 unfolding isSoundWord meaningOf
 word-says (Typed dots) e = let l = leb-true dots 255 e in let p = parts-back 1 dots (omega arith) in (rw (p .0, p .1) e, rw (p .0, dots-back 1 dots l))
 word-says (Shown dots) e = let l = leb-true dots 255 e in let p = parts-back 2 dots (omega arith) in (rw (p .0, p .1) e, rw (p .0, dots-back 2 dots l))
-word-says (Alias target) e = let p = parts-back 3 target (scalar-small target e) in (rw (p .0, p .1) e, rw (p .0, p .1))
+word-says (Alias target) e = let p = parts-back 3 target (operand-small target e) in (rw (p .0, p .1) e, rw (p .0, p .1))
 
 -- what a sound word says is in range, and has that word
 sound-says : (w : ℕ) → isSoundWord w ≡ true → (isNumberInRange (meaningOf w) ≡ true) × (wordOf (meaningOf w) ≡ w)
@@ -71,7 +72,7 @@ unfolding isSoundWord meaningOf
 sound-says w = go (eqb (w / kindUnit) 1) (eqb (w / kindUnit) 2) (eqb (w / kindUnit) 3) refl refl refl
   where
     go : (a b c : Bool) → eqb (w / kindUnit) 1 ≡ a → eqb (w / kindUnit) 2 ≡ b → eqb (w / kindUnit) 3 ≡ c
-        → pick a (leb (w % kindUnit) 255) (pick b (leb (w % kindUnit) 255) (pick c (isScalar (w % kindUnit)) false)) ≡ true
+        → pick a (leb (w % kindUnit) 255) (pick b (leb (w % kindUnit) 255) (pick c (isOperand (w % kindUnit)) false)) ≡ true
         → (isNumberInRange (pick a (Typed (w % 256)) (pick b (Shown (w % 256)) (Alias (w % kindUnit)))) ≡ true)
         × (wordOf (pick a (Typed (w % 256)) (pick b (Shown (w % 256)) (Alias (w % kindUnit)))) ≡ w)
     go true b c p q r e = (le-leb (w % 256) 255 (omega arith), omega (arith, eqb-true (w / kindUnit) 1 p, leb-true (w % kindUnit) 255 e))
@@ -141,7 +142,7 @@ words-sound [] ds m h f = rw append-nil (none-sound ds m)
 words-sound (d ∷ rs) ds m h f =
     let says = word-says (d .meaning) (f .0 .number) in
     let a = admissible ds d (h .0) in
-    rw (sound-not-zero (d .character) (wordOf (d .meaning)) (says .0), f .0 .character, says .0)
+    rw (sound-not-zero (d .character) (wordOf (d .meaning)) (says .0), f .0 .character, a .plain, says .0)
     (rw (says .1, a .fresh, a .opens)
     (rw append-snoc at (words-sound rs (ds ++ d ∷ []) m (h .1) (f .1))))
 
@@ -209,25 +210,26 @@ no-more ds ws e z =
     let l : length ws - 0 ≡ length ws = omega arith in
     record { rest = []; count = omega arith; admits = tt; in-range = tt; words = rw l z }
 
-fresh-admitted : (ds : List Definition) (d : Definition) → isFresh ds d ≡ true → length ds < definitionLimit → verdictOf ds d ≡ Admitted
+fresh-admitted : (ds : List Definition) (d : Definition) → isBraille (d .character) ≡ false → isFresh ds d ≡ true → length ds < definitionLimit → verdictOf ds d ≡ Admitted
 unfolding verdictOf
-fresh-admitted ds d e room =
+fresh-admitted ds d plain e room =
     let parts = both (not (isDefined ds (d .character))) (not (closesLoop ds d)) e in
-    rw (not-true (isDefined ds (d .character)) (parts .0), not-true (closesLoop ds d) (parts .1), lt-leb definitionLimit (length ds) room)
+    rw (plain, not-true (isDefined ds (d .character)) (parts .0), not-true (closesLoop ds d) (parts .1), lt-leb definitionLimit (length ds) room)
 
 one-more : (ds : List Definition) (c w : ℕ) (ws : List ℕ) {n : ℕ} → length ds < definitionLimit → (isSoundPair c w && isFresh ds (definitionOf c w)) ≡ true
     → PairsRead (ds ++ definitionOf c w ∷ []) ws n → PairsRead ds (c ∷ w ∷ ws) n
 unfolding wordsOf
 one-more ds c w ws room e r =
     let parts = both (isSoundPair c w) (isFresh ds (definitionOf c w)) e in
-    let sound = both (isScalar c) (isSoundWord w) (parts .0) in
+    let sound = both (isDefinable c) (isSoundWord w) (parts .0) in
+    let definable = both (isOperand c) (not (isBraille c)) (sound .0) in
     let says = sound-says w (sound .1) in
     let l : suc (suc (length ws)) - 2 * suc (length (r .rest)) ≡ length ws - 2 * length (r .rest) = omega arith in
     record {
       rest = definitionOf c w ∷ r .rest;
       count = omega (arith, r .count, length-append ds (definitionOf c w ∷ []));
-      admits = (fresh-admitted ds (definitionOf c w) (parts .1) room, r .admits);
-      in-range = (record { character = sound .0; number = says .0 }, r .in-range);
+      admits = (fresh-admitted ds (definitionOf c w) (not-true (isBraille c) (definable .1)) (parts .1) room, r .admits);
+      in-range = (record { character = definable .0; number = says .0 }, r .in-range);
       words = rw (l, says .1) (ap (λ (v : List ℕ). c ∷ w ∷ v) (r .words));
     }
 

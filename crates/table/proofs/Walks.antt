@@ -11,7 +11,7 @@ use Rattle.definitions.specs.declared.Definition.{Definition}
 use Rattle.definitions.specs.declared.Found.{Found}
 use Rattle.definitions.specs.declared.Cell.{Cell}
 use Rattle.definitions.specs.declared.Walk.{Walk}
-use Rattle.definitions.specs.Definitions.{find, cellOf, targetOf, table, explicit, aliasOf, walkWithin, walk}
+use Rattle.definitions.specs.Definitions.{foundIn, cellOf, targetOf, table, explicit, aliasOf, walkWithin, walk}
 use Rattle.table.specs.Words.{definitions}
 use Rattle.table.specs.Internal.{walkWithCell}
 use Rattle.table.proofs.Pairs.{definitions-length}
@@ -35,7 +35,7 @@ walk-first n ws c h =
     rw (definitions-length n ws h, p) (at-links _ (omega arith))
 
 module _ (ds : List Definition) (c n k e : ℕ) (inv : walk (table ds) c ≡ after k (walkWithin (aliasOf (table ds)) (n - k) e)) where
-  pub walk-on : {f : Found} {t : Maybe} (target : ℕ) → k < n → f ≡ find ds e → t ≡ targetOf f → t ≡ Character target → walk (table ds) c ≡ after (k + 1) (walkWithin (aliasOf (table ds)) (n - (k + 1)) target)
+  pub walk-on : {f : Found} {t : Maybe} (target : ℕ) → k < n → f ≡ foundIn ds e → t ≡ targetOf f → t ≡ Character target → walk (table ds) c ≡ after (k + 1) (walkWithin (aliasOf (table ds)) (n - (k + 1)) target)
   unfolding aliasOf walkWithin
   walk-on target h found of is =
       let p : n - k ≡ suc (n - (k + 1)) = omega arith in
@@ -45,7 +45,7 @@ module _ (ds : List Definition) (c n k e : ℕ) (inv : walk (table ds) c ≡ aft
   walk-here : {v : Cell} → walkWithin (aliasOf (table ds)) (n - k) e ≡ record { end = e; links = 0 } → v ≡ explicit (table ds) e → record { end = e; links = k; cell = v } ≡ walkWithCell (table ds) c
   walk-here here cell = let p : walk (table ds) c ≡ record { end = e; links = k } = inv ∙ rw here (at-links _ (omega arith)) in rw (p, cell)
 
-  pub walk-ends : {f : Found} {t : Maybe} {v : Cell} → f ≡ find ds e → t ≡ targetOf f → t ≡ Nothing → v ≡ cellOf f → record { end = e; links = k; cell = v } ≡ walkWithCell (table ds) c
+  pub walk-ends : {f : Found} {t : Maybe} {v : Cell} → f ≡ foundIn ds e → t ≡ targetOf f → t ≡ Nothing → v ≡ cellOf f → record { end = e; links = k; cell = v } ≡ walkWithCell (table ds) c
   unfolding aliasOf explicit
   walk-ends found of is cell = walk-here (walk-end (aliasOf (table ds)) (n - k) e (rw (← found) (told of is))) (rw (← found) cell)
 

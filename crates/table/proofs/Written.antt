@@ -15,7 +15,7 @@ use Rattle.definitions.specs.Effects.{definitionLimit}
 use Rattle.table.specs.Words.{pairWords, tableWords, kindUnit, wordOf, wordsOf, pairsOf, imageOf, charsetOf, definitions}
 use Rattle.table.specs.Internal.{Written}
 use Rattle.table.proofs.Pairs.{definitions-length, definitions-two}
-use Rattle.table.proofs.Readback.{isNumberInRange, InRange, scalar-small, word-says, behind-charset, behind-beyond}
+use Rattle.table.proofs.Readback.{isNumberInRange, InRange, operand-small, word-says, behind-charset, behind-beyond}
 
 -- a set put down in zeroed words
 set-behind : (m : ℕ) (u : List ℕ) (charset : ℕ) → set (replicate (suc (suc m)) 0 ++ u) m charset ≡ replicate m 0 ++ charset ∷ 0 ∷ u
@@ -78,7 +78,7 @@ stored-behind ds d u n e h =
 word-small : (m : Meaning) → isNumberInRange m ≡ true → wordOf m < 4 * kindUnit
 word-small (Typed dots) e = omega (arith, leb-true dots 255 e)
 word-small (Shown dots) e = omega (arith, leb-true dots 255 e)
-word-small (Alias target) e = omega (arith, scalar-small target e)
+word-small (Alias target) e = omega (arith, operand-small target e)
 
 module _ (ws : List ℕ) (n : ℕ) (w : Written ws n) where
   pub written-length : length (definitions n ws) ≡ n

@@ -7,7 +7,7 @@ use lib.ListN.{length, getD, take}
 use lib.Dec.{eqb, ltb}
 use Rattle.basics.specs.Choice.{pick}
 use Rattle.basics.specs.Refusals.{Reply, answered, refused}
-use Rattle.unicode.specs.Characters.{isScalar, isCharset}
+use Rattle.unicode.specs.Characters.{isBraille, isOperand, isCharset}
 use Rattle.definitions.specs.declared.Definition.{Definition}
 use Rattle.definitions.specs.Effects.{definitionLimit, isDefined, closesLoop}
 use Rattle.table.specs.Words.{pairWords, tableWords, isSoundWord, definitionOf, definitions, charsetOf}
@@ -17,9 +17,13 @@ use Rattle.table.specs.declared.Checked.the-variants.{Sound, FaultAt}
 abbrev pub isZeroPair : ℕ → ℕ → Bool
 isZeroPair c w = eqb c 0 && eqb w 0
 
--- a sound pair by itself: a character that is a scalar value, a good kind and number
+-- a character that may have a definition: what an operand can stand for, but none of the braille row
+abbrev pub isDefinable : ℕ → Bool
+isDefinable c = isOperand c && not (isBraille c)
+
+-- a sound pair by itself: a character that may have a definition, a good kind and number
 abbrev pub isSoundPair : ℕ → ℕ → Bool
-isSoundPair c w = isScalar c && isSoundWord w
+isSoundPair c w = isDefinable c && isSoundWord w
 
 -- and after the definitions before it: no character that an earlier pair has, no alias that closes a loop
 abbrev pub isFresh : List Definition → Definition → Bool

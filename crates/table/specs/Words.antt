@@ -5,7 +5,7 @@ use mathlib.Core.List.{List, [], _∷_, _++_}
 use lib.ListN.{length, getD, replicate}
 use lib.Dec.{eqb, leb}
 use Rattle.basics.specs.Choice.{pick}
-use Rattle.unicode.specs.Characters.{isScalar}
+use Rattle.unicode.specs.Characters.{isOperand}
 use Rattle.definitions.specs.declared.Meaning.{Meaning}
 use Rattle.definitions.specs.declared.Meaning.the-variants.{Typed, Shown, Alias}
 use Rattle.definitions.specs.declared.Definition.{Definition}
@@ -46,12 +46,12 @@ imageOf charset ds = pairsOf ds ++ charset ∷ 0 ∷ []
 abbrev pub charsetOf : List ℕ → ℕ
 charsetOf ws = getD ws pairWords 0
 
--- dots are at most 255, a target is a scalar value, and there is no other kind
+-- dots are at most 255, a target is what an operand can stand for, and there is no other kind
 abbrev pub isSoundNumber : ℕ → ℕ → Bool
 isSoundNumber kind number =
     pick (eqb kind 1) (leb number 255)
     (pick (eqb kind 2) (leb number 255)
-    (pick (eqb kind 3) (isScalar number)
+    (pick (eqb kind 3) (isOperand number)
     false))
 
 unfoldable pub isSoundWord : ℕ → Bool

@@ -14,11 +14,11 @@ ghost use mathlib.Core.List.{[], _∷_, _++_};
 ghost use Prim.Native.Nat.{_+_, _*_, _≤_, _<_};
 ghost use lib.ListN.{length, drop, set, replicate};
 ghost use Rattle.basics.specs.Internal.{bitsOf};
-ghost use Rattle.definitions.specs.Definitions.{find, explicit};
+ghost use Rattle.definitions.specs.Definitions.{find, foundIn, explicit};
 ghost use Rattle.definitions.specs.Effects.{definitionLimit, closesLoop, verdictOf};
 ghost use Rattle.table.specs.Words.{pairWords, tableWords, kindUnit, wordOf, meaningOf, isSoundWord, charsetOf, definitions, tableOf};
 ghost use Rattle.table.specs.Internal.{walkWithCell};
-ghost use Rattle.table.specs.Check.{isZeroPair, isSoundPair, zeroFrom, checkFrom, isSoundEnd, checkOf};
+ghost use Rattle.table.specs.Check.{isZeroPair, isDefinable, isSoundPair, zeroFrom, checkFrom, isSoundEnd, checkOf};
 
 // Two words for each definition.
 pub const PAIR_WORDS: usize = 2048;
@@ -81,7 +81,7 @@ fn is_sound_word(w: u32) -> bool
         return number <= 255;
     }
     if kind == 3 {
-        return unicode::is_scalar(number);
+        return unicode::is_operand(number);
     }
     false
 }
@@ -101,12 +101,23 @@ pub fn find_pair(words: &[u32], count: usize, c: u32) -> Found
     Found::Undefined
 }
 
+// What the table has for `c`. A character of the braille row shows its low eight bits and has no pair.
+fn found_in(words: &[u32], count: usize, c: u32) -> Found
+    requires { ⌜ 2 * count ≤ length (now words) ⌝ }
+    ensures { λ r. ⌜ r ≡ foundIn (definitions count (now (words .entry))) c ⌝ }
+{
+    if unicode::is_braille(c) {
+        return Found::Is(Meaning::Shown((c % 256) as u8));
+    }
+    find_pair(words, count, c)
+}
+
 // The explicit cell of `c`.
 pub fn explicit_cell(words: &[u32], count: usize, c: u32) -> Cell
     requires { ⌜ 2 * count ≤ length (now words) ⌝ }
     ensures { λ r. ⌜ r ≡ explicit (tableOf count (now (words .entry))) c ⌝ }
 {
-    definitions::cell_of(find_pair(words, count, c))
+    definitions::cell_of(found_in(words, count, c))
 }
 
 // The alias walk of `c`. What was found at its end says the cell too, so that the end is not looked for again.
@@ -117,7 +128,7 @@ pub fn walk_from(words: &[u32], count: usize, c: u32) -> Walked
     let mut at = c;
     let mut links = 0;
     while links < count {
-        let f = find_pair(words, count, at);
+        let f = found_in(words, count, at);
         match definitions::target_of(f) {
             Maybe::Character(target) => {
                 at = target;
@@ -153,13 +164,16 @@ fn closes_loop(words: &[u32], count: usize, c: u32, m: Meaning) -> bool
     }
 }
 
-// Whether a definition may take effect after those so far: 11, 12, 13 in this order.
+// Whether a definition may take effect after those so far: 22, 11, 12, 13 in this order.
 pub fn judge(words: &[u32], count: usize, d: Definition) -> Verdict
     requires { ⌜ 2 * count ≤ length (now words) ⌝ }
     ensures { λ r. ⌜ r ≡ verdictOf (definitions count (now (words .entry))) d ⌝ }
 {
     let c = d.character;
     let m = d.meaning;
+    if unicode::is_braille(c) {
+        return Verdict::Refused(Refusal::BrailleRow);
+    }
     match find_pair(words, count, c) {
         Found::Is(_) => Verdict::Refused(Refusal::AlreadyDefined),
         Found::Undefined => {
@@ -225,10 +239,20 @@ fn is_zero_pair(c: u32, w: u32) -> bool
     false
 }
 
+// Whether `c` may have a definition.
+fn is_definable(c: u32) -> bool
+    ensures { λ r. ⌜ r ≡ isDefinable c ⌝ }
+{
+    if unicode::is_operand(c) {
+        return !unicode::is_braille(c);
+    }
+    false
+}
+
 fn is_sound_pair(c: u32, w: u32) -> bool
     ensures { λ r. ⌜ r ≡ isSoundPair c w ⌝ }
 {
-    if unicode::is_scalar(c) {
+    if is_definable(c) {
         return is_sound_word(w);
     }
     false

@@ -1,25 +1,25 @@
 -- From a byte to its character and back, in every local character set: each is the other's inverse where it is defined.
-use Prim.Native.Nat.{ℕ, _+_, _*_, _/_, _≤_, _<_}
+use Prim.Native.Nat.{ℕ, _+_, _*_, _/_, _%_, _≤_, _<_}
 use mathlib.Core.Path.{_≡_, refl, sym, ap, _∙_}
 use mathlib.Core.Bool.{Bool, true, not, _&&_}
 use mathlib.Core.List.{List, [], _∷_}
 use native.Mathlib.Omega.{arith}
 use lib.Dec.{eqb, leb}
 use lib.ListN.{length, getD, drop}
-use borrow.Author.Tests.{eqb-true, eqb-false, leb-true, le-leb, lt-ltb, eq-eqb, ne-eqb}
+use borrow.Author.Tests.{eqb-true, eqb-false, leb-true, le-leb, lt-leb, lt-ltb, eq-eqb, ne-eqb}
 use Rattle.basics.specs.Choice.{pick, isCharacter}
 use Rattle.basics.proofs.Loops.{next-pair, no-pair}
 use Rattle.basics.proofs.Tests.{by-cases, by-test, both}
 use Rattle.basics.specs.declared.Maybe.{Maybe}
 use Rattle.basics.specs.declared.Maybe.the-variants.{Nothing, Character}
-use Rattle.unicode.specs.Characters.{isScalar, differences, asByte, characterBy, byteBy, localCharacter, localByte}
+use Rattle.unicode.specs.Characters.{isScalar, isPrivate, isOperand, differences, asByte, characterBy, byteBy, localCharacter, localByte, localOf}
 use Rattle.unicode.specs.Internal.{EightBits}
 
 -- ---- rows of a byte and its character, as the differences of a set are
 
--- a byte that no row behind it has, and a scalar value that is neither in a row behind it nor a byte's own number
+-- a byte that no row behind it has, and what an operand can stand for, neither in a row behind it nor a byte's own number
 abbrev isRow : ℕ → ℕ → List ℕ → Bool
-isRow b c rows = leb b 255 && (isScalar c && (eqb (characterBy rows b) b && not (isCharacter (byteBy rows c))))
+isRow b c rows = leb b 255 && (isOperand c && (eqb (characterBy rows b) b && not (isCharacter (byteBy rows c))))
 
 unfoldable areRows : List ℕ → Bool
 areRows [] = true
@@ -33,7 +33,7 @@ differences-are charset = by-test (λ rows. areRows rows ≡ true) (eqb charset 
 
 record Row (b c : ℕ) (rows : List ℕ) : Type 0 where
   pub small : b < 256
-  pub scalar : isScalar c ≡ true
+  pub operand : isOperand c ≡ true
   pub own-byte : characterBy rows b ≡ b
   pub own-character : byteBy rows c ≡ Nothing
   pub others : areRows rows ≡ true
@@ -47,11 +47,11 @@ unfolding areRows
 row b c rows e =
     let here = both (isRow b c rows) (areRows rows) e in
     let bits = both (leb b 255) _ (here .0) in
-    let value = both (isScalar c) _ (bits .1) in
+    let value = both (isOperand c) _ (bits .1) in
     let apart = both (eqb (characterBy rows b) b) _ (value .1) in
     record {
       small = omega (arith, leb-true b 255 (bits .0));
-      scalar = value .0;
+      operand = value .0;
       own-byte = eqb-true (characterBy rows b) b (apart .0);
       own-character = no-character (byteBy rows c) (apart .1);
       others = here .1;
@@ -172,15 +172,26 @@ local-small charset c {r} e = go r e
 pub eight-bits : (r : Maybe) (byte : ℕ) → EightBits r → r ≡ Character byte → byte < 256
 eight-bits r byte h q = rw q at h
 
--- ---- the character of a byte is a scalar value
+-- ---- the character of a byte, and so any after rule 2, is what an operand can stand for
 
-scalar-by : (rows : List ℕ) → areRows rows ≡ true → (byte : ℕ) → byte < 256 → isScalar (characterBy rows byte) ≡ true
+small-operand : (n : ℕ) → n < 256 → isOperand n ≡ true
+small-operand n small = rw (lt-ltb n 0xD800 (omega arith), lt-leb 0xF000 n (omega arith))
+
+operand-by : (rows : List ℕ) → areRows rows ≡ true → (byte : ℕ) → byte < 256 → isOperand (characterBy rows byte) ≡ true
 unfolding characterBy
-scalar-by [] h byte small = rw (lt-ltb byte 0xD800 (omega arith))
-scalar-by (b ∷ []) h byte small = rw (lt-ltb byte 0xD800 (omega arith))
-scalar-by (b ∷ c ∷ rows) h byte small =
+operand-by [] h byte small = small-operand byte small
+operand-by (b ∷ []) h byte small = small-operand byte small
+operand-by (b ∷ c ∷ rows) h byte small =
     let here = row b c rows h in
-    by-test (λ x. isScalar x ≡ true) (eqb b byte) (λ e. here .scalar) (λ e. scalar-by rows (here .others) byte small)
+    by-test (λ x. isOperand x ≡ true) (eqb b byte) (λ e. here .operand) (λ e. operand-by rows (here .others) byte small)
 
-pub local-scalar : (charset byte : ℕ) → byte < 256 → isScalar (localCharacter charset byte) ≡ true
-local-scalar charset = scalar-by (differences charset) (differences-are charset)
+pub local-operand : (charset byte : ℕ) → byte < 256 → isOperand (localCharacter charset byte) ≡ true
+local-operand charset = operand-by (differences charset) (differences-are charset)
+
+pub replaced-operand : (charset c : ℕ) → isScalar c ≡ true → isOperand (localOf charset c) ≡ true
+unfolding localOf
+replaced-operand charset c scalar =
+    by-test (λ x. isOperand x ≡ true) (isPrivate c) (λ e. local-operand charset (c % 256) (omega arith)) (λ e. rw (scalar, e))
+
+pub operand-scalar : (c : ℕ) → isOperand c ≡ true → isScalar c ≡ true
+operand-scalar c h = both (isScalar c) _ h .0

@@ -1,6 +1,6 @@
 -- Scalar values, the two rows that rules 1 and 2 are about, the local character sets, base characters, ASCII stand-ins.
 use Prim.Native.Nat.{ℕ, _%_}
-use mathlib.Core.Bool.{Bool, _&&_, _||_}
+use mathlib.Core.Bool.{Bool, not, _&&_, _||_}
 use mathlib.Core.List.{List, [], _∷_}
 use lib.Dec.{ltb, leb, eqb}
 use Rattle.basics.specs.Choice.{pick}
@@ -21,6 +21,10 @@ isBraille c = between 0x2800 0x28FF c
 -- the row of rule 2
 abbrev pub isPrivate : ℕ → Bool
 isPrivate c = between 0xF000 0xF0FF c
+
+-- what an operand can stand for, and a table hold: a scalar value, but none of the row of rule 2, which is replaced when read
+abbrev pub isOperand : ℕ → Bool
+isOperand c = isScalar c && not (isPrivate c)
 
 -- the local character sets: 1 is ISO 8859-1, 2 is ISO 8859-15
 unfoldable pub isCharset : ℕ → Bool

@@ -7,7 +7,7 @@ ghost use lib.ListN.{length};
 ghost use Rattle.basics.specs.Internal.{bitsOf};
 ghost use Rattle.unicode.specs.Utf8.{afterFirst, afterFurther, afterByte, atEnd, utf8};
 ghost use Rattle.unicode.specs.Internal.{BadWithin, Resumed, EightBits};
-ghost use Rattle.unicode.specs.Characters.{isScalar, isBraille, isPrivate, isCharset, asByte, characterBy, byteBy, localCharacter, localByte, localOf, standsFor, baseOf, standInOf};
+ghost use Rattle.unicode.specs.Characters.{isScalar, isBraille, isPrivate, isOperand, isCharset, asByte, characterBy, byteBy, localCharacter, localByte, localOf, standsFor, baseOf, standInOf};
 
 // Where the reading of a line as UTF-8 stands: between two characters; in a character that still wants `left` bytes,
 // the next of them from `low` to `high`; or past a bad sequence. The position is where that sequence begins.
@@ -215,6 +215,16 @@ pub fn is_private(c: u32) -> bool
         return false;
     }
     c <= 0xF0FF
+}
+
+// Whether `c` can be what an operand stands for: a scalar value, none of the private row.
+pub fn is_operand(c: u32) -> bool
+    ensures { λ r. ⌜ r ≡ isOperand c ⌝ }
+{
+    if is_scalar(c) {
+        return !is_private(c);
+    }
+    false
 }
 
 // The local character sets by number.

@@ -1,5 +1,5 @@
 use Rattle.basics.proofs.Tests.{chosen, tests}
-use Rattle.definitions.proofs.Admission.{judged-defined, judged-new}
+use Rattle.definitions.proofs.Admission.{judged}
 use Rattle.table.proofs.Pairs.{definitions-length}
 use borrow.Author.Needs.{needs}
 use Rattle.table.proofs.judge.Statement.{statement}
@@ -10,10 +10,12 @@ judge-spec =
     tie.close
     (tie.spec
     (λ c κs. search needs)
+    (λ c. search judged)
+    (λ c κs. search needs)
     (λ c. search needs)
     (λ c. search needs)
     (λ c κs. search needs)
-    (λ c. search (judged-new, definitions-length, chosen))
-    (λ c. search (judged-new, definitions-length, chosen, tests))
-    (λ c. search (judged-defined, definitions-length))
-    (λ c. search (judged-new, definitions-length, chosen, tests)))
+    (λ c. search (judged, definitions-length, chosen))
+    (λ c. search (judged, definitions-length, chosen, tests))
+    (λ c. search (judged, definitions-length))
+    (λ c. search (judged, definitions-length, chosen, tests)))
