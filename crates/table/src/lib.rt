@@ -101,15 +101,15 @@ pub fn find_pair(words: &[u32], count: usize, c: u32) -> Found
     Found::Undefined
 }
 
-// What the table has for `c`. A character of the braille row shows its low eight bits and has no pair.
-fn found_in(words: &[u32], count: usize, c: u32) -> Found
+// What the table has for a character. One of the braille row shows its low eight bits, and its pairs are not asked.
+fn found_in(words: &[u32], count: usize, character: u32) -> Found
     requires { ⌜ 2 * count ≤ length (now words) ⌝ }
-    ensures { λ r. ⌜ r ≡ foundIn (definitions count (now (words .entry))) c ⌝ }
+    ensures { λ r. ⌜ r ≡ foundIn (definitions count (now (words .entry))) character ⌝ }
 {
-    if unicode::is_braille(c) {
-        return Found::Is(Meaning::Shown((c % 256) as u8));
+    if unicode::is_braille(character) {
+        return Found::Is(Meaning::Shown((character % 256) as u8));
     }
-    find_pair(words, count, c)
+    find_pair(words, count, character)
 }
 
 // The explicit cell of `c`.
