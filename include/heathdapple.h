@@ -3,22 +3,23 @@
  * Link with libheathdapple.a (x86-64 Linux). Each pointer is valid for its length, in elements; buffers that are written
  * lie apart from each other and from what is read. A length may be 0, with any non-null pointer.
  *
- * A refusal is number * 2^48 + column * 2^32 + place, with the numbers 1 to 21 of the papers; a place beyond 2^32 - 1 is given
+ * A refusal is number * 2^48 + column * 2^32 + place, with the numbers 1 to 22 of the papers; a place beyond 2^32 - 1 is given
  * as 2^32 - 1, a column beyond 2^16 - 1 as 2^16 - 1. Every other answer is below 2^48.
  *
- * Refusals 3 to 13, 16 and 17 have a column: where on its line the text is at fault, in bytes from 1. It is the first byte of
- * the word or operand at fault; for 3 byte 1,025, for 4 the first byte of the bad sequence, for 6 one past the line's last byte,
- * its end (LF, one CR) not counted, for 10 the condition word that is one too many, for 11 to 13 the directive word that took
- * effect, in an old byte table the first word of the line. All other refusals have column 0.
+ * Refusals 3 to 13, 16, 17 and 22 have a column: where on its line the text is at fault, in bytes from 1. It is the first byte
+ * of the word or operand at fault; for 3 byte 1,025, for 4 the first byte of the bad sequence, for 6 one past the line's last
+ * byte, its end (LF, one CR) not counted, for 10 the condition word that is one too many, for 11 to 13 and 22 the directive word
+ * that took effect, in an old byte table the first word of the line. All other refusals have column 0.
  *
  * There are two local character sets: 1 is ISO 8859-1, 2 is ISO 8859-15, which has U+20AC at A4, U+0160 at A6, U+0161 at A8,
  * U+017D at B4, U+017E at B8, U+0152 at BC, U+0153 at BD and U+0178 at BE. The set of a compile call decides which characters
- * the byte operands of its text are, and which one a private-row character (U+F000 to U+F0FF) stands for, in the conditions of
- * the text and in every lookup on the table.
+ * the byte operands of its text are, and which one a private-row character (U+F000 to U+F0FF) stands for, in the character
+ * operands of the text and in every lookup on the table.
  *
  * A compiled table is 2,050 words: 1,024 pairs, in word 2,048 its set, and in word 2,049 zero. The calls that take one look at
  * no words beyond. They refuse fewer words by 2, and words that are no such table by 15, placed at the first pair at fault, from
- * 0; words 2,048 and 2,049 count as pair 1,024.
+ * 0; words 2,048 and 2,049 count as pair 1,024. No pair is for a character of the braille row (U+2800 to U+28FF) or the private
+ * row, and none has a target of the private row.
  */
 #ifndef HEATHDAPPLE_H
 #define HEATHDAPPLE_H

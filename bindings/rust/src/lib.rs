@@ -60,7 +60,8 @@ pub const TEXT_EDITION: u32 = 2;
 /// The local character set ISO 8859-1, for [`compile`], [`byte_cells`] and [`Table::compile_in`]: byte n is character n.
 ///
 /// A set says which characters the byte operands of a text are, and which one a private-row character (U+F000 to U+F0FF)
-/// stands for in conditions and lookups. Character operands, as that of `char \xA4 1`, are the same in every set.
+/// stands for in character operands and lookups. All other character operands, as that of `char \xA4 1`, are the same in
+/// every set.
 pub const ISO_8859_1: u32 = 1;
 
 /// The local character set ISO 8859-15, which differs from [`ISO_8859_1`] in eight bytes: A4 is U+20AC, A6 U+0160, A8

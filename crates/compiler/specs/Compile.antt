@@ -21,7 +21,7 @@ use Rattle.reader.specs.Reader.{readLine}
 use Rattle.reader.specs.declared.Reading.{Reading}
 use Rattle.reader.specs.declared.Reading.the-variants.{Fault, NoEffect, Define, Block}
 
--- 11, 12, 13, which only a definition that takes effect can give
+-- 22, 11, 12, 13, which only a definition that takes effect can give
 abbrev pub judged : Verdict → Definition → ℕ → Reading
 judged Judged.Admitted d left = Define d left
 judged (Judged.Refused refusal) d left = Fault refusal left

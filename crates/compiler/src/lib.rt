@@ -35,7 +35,7 @@ pub struct Stepped {
     pub state: State,
 }
 
-// What a line as read does: 11 to 13 refuse a definition that would take effect.
+// What a line as read does: 22 and 11 to 13 refuse a definition that would take effect.
 fn effect_of(words: &[u32], count: usize, reading: Reading) -> Reading
     requires { ⌜ 2 * count ≤ length (now words) ⌝ }
     ensures { λ r. ⌜ r ≡ effectOf (definitions count (now (words .entry))) reading ⌝ }

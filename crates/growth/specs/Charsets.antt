@@ -15,7 +15,7 @@ workedCharsets =
     -- rule 2
     ∷ showsIn 1 "char \\u017E 1" 0xF0B8 0xFF 25 0
     ∷ showsIn 2 "char \\u017E 1" 0xF0B8 0x01 19 0
-    -- and so a condition with a character of the private row
+    -- and so a condition on a character of the private row
     ∷ showsIn 1 "char \\u0152 1\nifGlyph \\uF0BC char a 2" 0x61 0xFF 9 0
     ∷ showsIn 2 "char \\u0152 1\nifGlyph \\uF0BC char a 2" 0x61 0x02 3 0
     -- 11 goes by the character that comes out

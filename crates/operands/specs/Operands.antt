@@ -22,7 +22,7 @@ use Rattle.operands.specs.declared.CellRead.the-variants.{Bad, Read}
 abbrev pub wordOperand : Maybe → List ℕ → Word → Operand
 wordOperand value line w = ifCharacter value (O.Fault BadCharacter (length line - w .start)) (λ c. O.Value c (w .end))
 
--- the next word as a character operand, or, where `byte` holds, as a byte operand in a local character set
+-- the next word as a character operand, or, where `byte` holds, as a byte operand; both by a local character set
 unfoldable pub characterAt : ℕ → Bool → List ℕ → ℕ → Operand
 characterAt charset byte line at =
     let w : Word = wordAt line at in

@@ -299,7 +299,8 @@ fn word_value(charset: u32, w: &[u8], byte: bool) -> Maybe
     operand_of(charset, w)
 }
 
-// The next word from `at` on as a character operand, or, where `byte` holds, as a byte operand in a local character set.
+// The next word from `at` on as a character operand, or, where `byte` holds, as a byte operand; both by a local character
+// set.
 pub fn character_at(charset: u32, line: &[u8], at: usize, byte: bool) -> Operand
     requires { ⌜ at ≤ length (now line) ⌝ }
     ensures { λ r. ⌜ r ≡ characterAt charset byte (now (line .entry)) at ⌝ }

@@ -1,5 +1,5 @@
 -- Reading a line: 3, 4, then faults 5 to 10 and 17 as met from left to right. The conditions are judged with the definitions of the lines before;
--- byte operands and rule 2 go by the local character set.
+-- operands and rule 2 go by the local character set.
 use Prim.Native.Nat.{ℕ, zero, suc, _-_}
 use mathlib.Core.Bool.{Bool, true, false, not, Bool·beq}
 use mathlib.Core.List.{List}

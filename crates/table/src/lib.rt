@@ -87,7 +87,7 @@ fn is_sound_word(w: u32) -> bool
 }
 
 // What the first pair of the character `c` says.
-pub fn find_pair(words: &[u32], count: usize, c: u32) -> Found
+fn find_pair(words: &[u32], count: usize, c: u32) -> Found
     requires { ⌜ 2 * count ≤ length (now words) ⌝ }
     ensures { λ r. ⌜ r ≡ find (definitions count (now (words .entry))) c ⌝ }
 {
