@@ -20,6 +20,9 @@ const BORDERS: [u32; 40] = [
     0xEFFF, 0xF000, 0xF0FF, 0xF100, 0x10000, 0x10FFFF,
 ];
 
+/// Characters at the borders of the braille row and the private row.
+const ROW_BORDERS: [u32; 8] = [0x27FF, 0x2800, 0x28FF, 0x2900, 0xEFFF, 0xF000, 0xF0FF, 0xF100];
+
 const NON_SCALARS: [u32; 8] = [0xD800, 0xDBFF, 0xDC00, 0xDFFF, 0x11_0000, 0xFF_FFFF, 0x100_0061, u32::MAX];
 
 pub fn any_scalar(random: &mut Random) -> u32 {
@@ -53,7 +56,7 @@ fn pool_character(random: &mut Random) -> u32 {
         76..=81 => 0xFFFD,
         82..=88 => '?' as u32,
         89..=91 => 0xF000 + random.pick(&KNOWN) % 256,
-        92 | 93 => 0x2800 + u32::from(random.byte()),
+        92 | 93 => braille(random),
         94..=97 => random.between(0x1_0000, 0x1_FFFF) as u32,
         _ => any_scalar(random),
     }
@@ -73,9 +76,38 @@ fn differing(random: &mut Random) -> u32 {
     }
 }
 
-/// Characters to draw from; of 30 texts or tables in a hundred they are around the bytes in which the sets differ.
+fn braille(random: &mut Random) -> u32 {
+    0x2800 + u32::from(random.byte())
+}
+
+/// A character of the braille row or the private row, or at their borders.
+fn of_rows(random: &mut Random) -> u32 {
+    match random.below(5) {
+        0 | 1 => braille(random),
+        2 => 0xF000 + u32::from(random.byte()),
+        3 => 0xF000 + u32::from(*random.pick(&DIFFERENCES)),
+        _ => *random.pick(&ROW_BORDERS),
+    }
+}
+
+/// A character of these, or a letter or one more that the private row stands for.
+fn around_rows(random: &mut Random) -> u32 {
+    let local = *random.pick(&[0x00, 0x3F, 0x41, 0x61, 0x62, 0x63, 0xE0, 0xE6, 0xFF]);
+    match random.below(10) {
+        0..=2 => of_rows(random),
+        3 | 4 => private(local),
+        _ => local,
+    }
+}
+
+/// Characters to draw from; of 30 texts or tables in a hundred they are around the bytes in which the sets differ, and of 15
+/// around the two rows.
 fn pool(random: &mut Random, size: usize) -> Vec<u32> {
-    let draw = if random.percent(30) { differing } else { pool_character };
+    let draw = match random.below(20) {
+        0..=5 => differing,
+        6..=8 => around_rows,
+        _ => pool_character,
+    };
     (0..size).map(|_| draw(random)).collect()
 }
 
@@ -135,9 +167,9 @@ const BAD_CHARACTERS: [&str; 34] = [
 ];
 
 /// No bytes in any set; also numbers over 255 of characters that ISO 8859-15 has.
-const BAD_BYTES: [&str; 12] = [
+const BAD_BYTES: [&str; 18] = [
     "\\u0041", "\\U00000041", "\\o400", "\\o777", "Ā", "\\u20AC", "\\u00A4", "\\o540", "\\o575", "\\o522", "\u{F0A4}",
-    "\u{F061}",
+    "\u{F061}", "\u{F000}", "\u{F0FF}", "\\uF0BD", "\u{2800}", "\u{28E9}", "\\u2801",
 ];
 
 const BAD_DOTS: [&str; 35] = [
@@ -223,8 +255,10 @@ impl Maker<'_> {
         format!("\\{letter}{}", self.hex(number, 2))
     }
 
-    /// A character in any form that can write it.
+    /// A character in any form that can write it, at times as the private-row one of its byte.
     fn write_character(&mut self, bytes: &mut Vec<u8>, character: u32) {
+        let byte = self.set.byte(character).filter(|_| self.random.percent(10));
+        let character = byte.map_or(character, |byte| 0xF000 + u32::from(byte));
         self.write_operand(bytes, character, character, true);
     }
 
@@ -267,10 +301,11 @@ impl Maker<'_> {
     }
 
     fn draw(&mut self) -> u32 {
-        match self.random.below(25) {
-            0 => any_scalar(self.random),
-            1 => private(*self.random.pick(&self.alphabet)),
-            2..=8 if self.open() > 0 && !self.asked.is_empty() => *self.random.pick(&self.asked),
+        match self.random.below(50) {
+            0 | 1 => any_scalar(self.random),
+            2 | 3 => private(*self.random.pick(&self.alphabet)),
+            4 => braille(self.random),
+            5..=18 if self.open() > 0 && !self.asked.is_empty() => *self.random.pick(&self.asked),
             _ => *self.random.pick(&self.alphabet),
         }
     }
@@ -278,6 +313,12 @@ impl Maker<'_> {
     fn character(&mut self, bytes: &mut Vec<u8>) {
         let character = self.draw();
         self.write_character(bytes, character);
+    }
+
+    /// The target of an alias.
+    fn target(&mut self, bytes: &mut Vec<u8>) {
+        let target = if self.random.percent(12) { braille(self.random) } else { self.draw() };
+        self.write_character(bytes, target);
     }
 
     /// The byte of a character of the alphabet in one of the sets, or else any byte.
@@ -349,9 +390,14 @@ impl Maker<'_> {
         bytes.push(b')');
     }
 
+    /// The definitions of the lines so far.
+    fn pairs(&self) -> Pairs<'_> {
+        Pairs(&self.words[..2 * self.reading.count])
+    }
+
     /// Whether a condition holds with the lines so far.
     fn holds(&self, condition: Condition) -> bool {
-        Pairs(&self.words[..2 * self.reading.count]).holds(condition, self.set)
+        self.pairs().holds(condition)
     }
 
     /// A condition, which holds more often than not.
@@ -367,7 +413,7 @@ impl Maker<'_> {
         let mut operand = Vec::new();
         let words = if self.random.percent(50) {
             if wish {
-                plain = self.holds(Condition::Glyph(character, true));
+                plain = self.holds(Condition::Glyph(reference::local(character, self.set), true));
             }
             self.write_character(&mut operand, character);
             ["ifNotGlyph", "ifGlyph"]
@@ -391,7 +437,7 @@ impl Maker<'_> {
             self.blanks(bytes);
             self.character(bytes);
             self.blanks(bytes);
-            self.character(bytes);
+            self.target(bytes);
             return;
         }
         match self.random.below(6) {
@@ -547,12 +593,44 @@ impl Maker<'_> {
         }
     }
 
-    /// A line with one fault of the grammar, behind conditions that may hold or fail.
+    /// A definition for a braille-row character, as an alias often with a loop too, and at times with text behind it.
+    fn braille_definition(&mut self, bytes: &mut Vec<u8>) {
+        // The end of a walk so far, if the draws find one.
+        let [start, other] = [self.draw(), self.draw()].map(|drawn| reference::local(drawn, self.set));
+        let end = self.pairs().walk(start).end;
+        let character = if reference::braille_cell(end).is_some() { end } else { braille(self.random) };
+        let word = *self.random.pick(&["char", "glyph", "alias", "alias", "alias", "byte"]);
+        bytes.extend(word.as_bytes());
+        self.blanks(bytes);
+        self.write_character(bytes, character);
+        self.blanks(bytes);
+        if word == "alias" {
+            let target = *self.random.pick(&[character, start, other]);
+            self.write_character(bytes, target);
+        } else {
+            self.write_dots(bytes);
+        }
+        if self.random.percent(10) {
+            self.blanks(bytes);
+            bytes.extend(self.random.pick(&AFTER).as_bytes());
+        }
+    }
+
+    /// An alias of a character to itself, in any spellings.
+    fn self_alias(&mut self, bytes: &mut Vec<u8>) {
+        let character = self.set.character(self.draw_byte());
+        bytes.extend(b"alias ");
+        self.write_character(bytes, character);
+        self.blanks(bytes);
+        self.write_character(bytes, character);
+    }
+
+    /// A line with one fault of the grammar or of the rows, behind conditions that may hold or fail.
     fn faulty_line(&mut self) -> Vec<u8> {
         let mut bytes = Vec::new();
         self.conditions(&mut bytes);
         let word = *self.random.pick(&["char", "glyph", "byte"]);
-        match self.random.below(12) {
+        match self.random.below(16) {
             0 => {
                 bytes.extend(self.random.pick(&UNKNOWN).as_bytes());
                 self.blanks(&mut bytes);
@@ -627,6 +705,8 @@ impl Maker<'_> {
                     _ => self.definition(&mut bytes),
                 }
             }
+            11..=13 => self.braille_definition(&mut bytes),
+            14 => self.self_alias(&mut bytes),
             _ => {
                 self.definition(&mut bytes);
                 let more = self.random.between(1, 3);
@@ -943,7 +1023,12 @@ pub fn large_text(random: &mut Random) -> Text {
         bytes.extend(front.as_bytes());
         let line = match random.below(10) {
             0..=2 => {
-                let target = if random.percent(50) { character + 1 } else { 0x61 };
+                let target = match random.below(20) {
+                    0..=8 => character + 1,
+                    9..=14 => 0x61,
+                    15 => 0xF061,
+                    _ => braille(random),
+                };
                 format!("alias \\u{character:04X} \\u{target:04X}\n")
             }
             3..=6 => format!("char \\u{character:04X} {}\n", random.between(1, 7)),
@@ -951,7 +1036,7 @@ pub fn large_text(random: &mut Random) -> Text {
         };
         bytes.extend(line.as_bytes());
     }
-    let last: &[u8] = match random.below(10) {
+    let last: &[u8] = match random.below(15) {
         0 => b"ifCell 8 char \\uF8FF 1",
         1 => b"ifNotCell 8 char \\uF8FF 1",
         2 => b"alias a a",
@@ -959,6 +1044,10 @@ pub fn large_text(random: &mut Random) -> Text {
         4 => b"ifCell 8\nchar \\uF8FF 1\nendIf",
         5 => b"ifCell 8\nelse\nchar \\uF8FF 1\nendIf",
         6 => b"ifNotCell 8\nelse\nchar \\uF8FF 1\nalias a a\nendIf",
+        7 => b"alias \\uF061 a",
+        8 => b"ifNotCell 8 glyph \\u28FF 1",
+        9 => b"alias \\u2801 \\u2801",
+        10 => b"ifCell 8 char \\u2800 1",
         _ => b"",
     };
     bytes.extend(last);
@@ -991,9 +1080,12 @@ pub fn chain_text(random: &mut Random, links: usize) -> Text {
     let end = alphabet[links];
     let in_block = random.percent(50);
     text += if in_block { "ifGlyph \\u0400\nchar a 1\nelse\nchar c 1\n" } else { "ifGlyph \\u0400 char a 1\n" };
-    match random.below(4) {
+    match random.below(8) {
         0 => text += &format!("alias \\u{end:04X} \\u0400\n"),
-        1 => {}
+        // The same loop by the two spellings of a character.
+        1 => text += &format!("alias \\u{end:04X} \\uF041\nalias A \\u0400\n"),
+        2 => {}
+        3 | 4 => text += &format!("alias \\u{end:04X} \\u{:04X}\n", braille(random)),
         _ => text += &format!("glyph \\u{end:04X} 2\n"),
     }
     text += "ifGlyph \\u0400 char b 1\n";
@@ -1039,7 +1131,7 @@ pub fn query(random: &mut Random, alphabet: &[u32]) -> u32 {
         28 => 0xF0A0 + random.below(0x60) as u32,
         29 | 30 => *random.pick(&KNOWN),
         31 => differing(random),
-        32 => 0x2800 + u32::from(random.byte()),
+        32 => braille(random),
         33 => 0xF000 + u32::from(random.byte()),
         34 => *random.pick(&BORDERS),
         35 => random.between(0x2008, 0x2020) as u32,
@@ -1048,11 +1140,20 @@ pub fn query(random: &mut Random, alphabet: &[u32]) -> u32 {
     }
 }
 
-fn sound_second_word(random: &mut Random, characters: &[u32]) -> u32 {
-    match random.below(4) {
-        0 => 1 << 24 | u32::from(random.byte()),
-        1 => 2 << 24 | u32::from(random.byte()),
-        _ => 3 << 24 | *random.pick(characters),
+/// A character that a table may define, in the place of one of the two rows.
+fn definable(character: u32) -> u32 {
+    let local = reference::local(character, Set::Iso8859_1);
+    reference::braille_cell(local).map_or(local, u32::from)
+}
+
+/// A second word with a sound kind and number, but for a few targets of the private row.
+fn second_word(random: &mut Random, characters: &[u32]) -> u32 {
+    match random.below(20) {
+        0..=4 => 1 << 24 | u32::from(random.byte()),
+        5..=9 => 2 << 24 | u32::from(random.byte()),
+        10 => 3 << 24 | *random.pick(characters),
+        11 | 12 => 3 << 24 | braille(random),
+        _ => 3 << 24 | reference::local(*random.pick(characters), Set::Iso8859_1),
     }
 }
 
@@ -1096,7 +1197,7 @@ fn damage_pairs(random: &mut Random, words: &mut [u32], count: usize) {
     let pair = if count > 0 && random.percent(85) { random.below(count) } else { random.below(PAIRS.min(count + 3)) };
     let other = random.below(PAIRS.min(count + 1));
     let (first, second) = (2 * pair, 2 * pair + 1);
-    match random.below(14) {
+    match random.below(17) {
         0 => words[first + random.below(2)] ^= 1 << random.below(32),
         1 => words[first + random.below(2)] = random.word(),
         2 => words[random.below(SET_WORD)] = random.word(),
@@ -1112,6 +1213,8 @@ fn damage_pairs(random: &mut Random, words: &mut [u32], count: usize) {
             words.swap(first, 2 * other);
             words.swap(second, 2 * other + 1);
         }
+        13 | 14 => words[first] = of_rows(random),
+        15 => words[second] = 3 << 24 | of_rows(random),
         _ => words[SET_WORD - 1 - random.below(2)] = 1 << random.below(32),
     }
 }
@@ -1136,6 +1239,7 @@ pub fn any_table(random: &mut Random, words: &mut [u32]) -> Vec<u32> {
         // Repeats are rare enough that many tables come through.
         let repeats = random.percent(5);
         let drawn = *random.pick(&characters);
+        let drawn = if random.percent(90) { definable(drawn) } else { drawn };
         let used = words[..2 * pair].chunks_exact(2).any(|earlier| earlier[0] == drawn);
         words[2 * pair] = if used && !repeats {
             next += 1;
@@ -1143,7 +1247,7 @@ pub fn any_table(random: &mut Random, words: &mut [u32]) -> Vec<u32> {
         } else {
             drawn
         };
-        words[2 * pair + 1] = sound_second_word(random, &characters);
+        words[2 * pair + 1] = second_word(random, &characters);
     }
     if random.percent(20) {
         damage_table(random, words, count);

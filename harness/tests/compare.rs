@@ -5,7 +5,7 @@
 use harness::generate;
 use harness::random::Random;
 use harness::reference::{
-    self, Meanings, Pairs, Refusal, Row, Set, Shown, Window, BYTE_EDITION, CELLS, CONDITIONS, DIFFERENCES, PAIRS,
+    self, Meaning, Meanings, Pairs, Refusal, Set, Shown, Window, BYTE_EDITION, CELLS, CONDITIONS, DIFFERENCES, PAIRS,
     SET_WORD, TEXT_BYTES, TEXT_EDITION, WORDS,
 };
 use harness::side::{Side, HASHED, LIBRARY, REFERENCE};
@@ -34,10 +34,10 @@ const SEVERAL: usize = 3;
 const ENOUGH: u64 = 10;
 const GUARD: usize = 16;
 /// The highest number of a refusal.
-const REFUSALS: usize = 21;
+const REFUSALS: usize = 22;
 /// The refusals with a column that a text table, an attributes table and a byte table can have.
 const WITH_COLUMN: [&[usize]; 3] =
-    [&[3, 4, 5, 6, 7, 8, 9, 10, 11, 12, 13, 17], &[3, 4, 5, 6, 8, 9, 11, 16], &[3, 4, 6, 7, 8, 9, 11, 16]];
+    [&[3, 4, 5, 6, 7, 8, 9, 10, 11, 12, 13, 17, 22], &[3, 4, 5, 6, 8, 9, 11, 16], &[3, 4, 6, 7, 8, 9, 11, 16]];
 const TEXT_TABLE: usize = 0;
 const ATTRIBUTES_TABLE: usize = 1;
 const BYTE_TABLE: usize = 2;
@@ -54,7 +54,7 @@ const OTHER_EDITIONS: [u32; 4] = [0, 3, 4, u32::MAX];
 const OTHER_SETS: [u32; 8] = [0, 3, 4, 0x101, 0x102, 0x1_0001, 0x8000_0002, u32::MAX];
 
 /// Lines of which every five are put together, so every four and fewer too.
-const BLOCK_LINES: [&str; 13] = [
+const BLOCK_LINES: [&str; 14] = [
     "",
     "ifGlyph a\n",
     "ifNotGlyph a\n",
@@ -64,6 +64,7 @@ const BLOCK_LINES: [&str; 13] = [
     "\tendIf \n",
     "char a 1\n",
     "ifGlyph a char b 1\n",
+    "glyph ⠁ 1\n",
     "else \tx\n",
     "  endIf  x\n",
     "ifGlyph a  endIf\n",
@@ -71,8 +72,10 @@ const BLOCK_LINES: [&str; 13] = [
 ];
 
 /// Words of which every five are put on a line, so every four and fewer too, and lines before it.
-const LINE_WORDS: [&str; 14] =
-    ["", "char", "alias", "ifNotGlyph", "ifNotCell", "endIf", "é", "€", "𝄞", "1", "(1 2)", "(1 9)", "#", "\r"];
+const LINE_WORDS: [&str; 16] = [
+    "", "char", "alias", "ifNotGlyph", "ifNotCell", "endIf", "é", "€", "𝄞", "⠁", "\u{F0E9}", "1", "(1 2)", "(1 9)",
+    "#", "\r",
+];
 const BEFORE_WORDS: &str = "glyph é 1\nalias € 𝄞\n";
 
 /// Words of attributes tables of which every four are put on a line, and a line before it.
@@ -83,6 +86,13 @@ const BEFORE_ATTRIBUTES_WORDS: &str = "dot 1 =blink\n";
 const BYTE_WORDS: [&str; 14] =
     ["", "byte", "dot", "a", "\\X61", "1", "(1 2)", "(1 9)", "off", "~blink", "é", "€", "#", "\r"];
 const BEFORE_BYTE_WORDS: &str = "\\x61 1\ndot 1 on\n";
+
+/// Last lines of a table that is full or lacks one definition, and what is before each of them on its line.
+const LAST_LINES: [&str; 12] = [
+    "char ⠁ 1", "glyph \\u28FF 1", "alias \\u2800 \\u2800", "alias ⠁ a", "alias a ⠁", "char \\uF061 1",
+    "alias \\uF061 a", "glyph \\u4000 1", "alias a a", "ifCell 1 char ⠁ 1", "ifGlyph a", "char ⠁ 1 x",
+];
+const BEFORE_LAST: [&str; 5] = ["", "  ", "ifNotCell 1 ", "ifNotGlyph é ifNotGlyph ⠁\t", "\tifNotGlyph 𝄞 "];
 
 const LINE_ENDS: [&str; 8] = ["", "\n", "\r", "\r\n", "\r\r\n", "  \n", "\t\r\n", " \r\r\n"];
 
@@ -194,7 +204,7 @@ fn column_meets(line: &[u8], column: usize) -> [(&'static str, bool); COLUMN_MEE
 fn columns_due(table: usize, number: usize) -> &'static [usize] {
     match (table, number) {
         (TEXT_TABLE, 6) => &[0, 1, 2, 3, 4, 5, 6, 7],
-        (TEXT_TABLE, 4..=13) => &[0, 1, 2, 3, 4],
+        (TEXT_TABLE, 4..=13 | 22) => &[0, 1, 2, 3, 4],
         (ATTRIBUTES_TABLE | BYTE_TABLE, 4) => &[0, 1, 2, 3],
         (BYTE_TABLE, 6) => &[0, 1, 2, 5, 6, 7],
         (BYTE_TABLE, 8 | 9) => &[0, 1, 2],
@@ -289,31 +299,40 @@ fn differs_in_private_row(character: u32) -> bool {
     character.checked_sub(0xF000).is_some_and(differs)
 }
 
-/// The word behind the first of some words.
-fn behind<'a>(words: &[&'a [u8]], names: &[&str]) -> Option<&'a [u8]> {
+/// The word that is so many places behind the first of some words.
+fn behind<'a>(words: &[&'a [u8]], names: &[&str], places: usize) -> Option<&'a [u8]> {
     let name = words.iter().position(|word| names.iter().any(|name| name.as_bytes() == *word))?;
-    words.get(name + 1).copied()
+    words.get(name + places).copied()
+}
+
+/// The character so many places behind.
+fn character_behind(words: &[&[u8]], names: &[&str], places: usize) -> Option<u32> {
+    behind(words, names, places).and_then(number_of).map(|(number, _)| number)
 }
 
 /// The byte operand of a line of a text table or of a byte table.
 fn byte_operand<'a>(table: usize, words: &[&'a [u8]]) -> Option<&'a [u8]> {
     match table {
         BYTE_TABLE => operand(words).filter(|_| !of_dot(words)),
-        _ => behind(words, &["byte"]),
+        _ => behind(words, &["byte"], 1),
     }
 }
 
 /// What a text may meet of the bytes in which the sets differ.
 const SETS_MEET: usize = 8;
 
-fn sets_meet(table: usize, set: Set, text: &[u8], answer: Result<u32, Refusal>) -> [(&'static str, bool); SETS_MEET] {
-    let lines: Vec<Vec<&[u8]>> = reference::lines(text).map(words_of).collect();
+fn sets_meet(
+    table: usize,
+    set: Set,
+    lines: &[Vec<&[u8]>],
+    answer: Result<u32, Refusal>,
+) -> [(&'static str, bool); SETS_MEET] {
     let number = answer.map_or_else(|refusal| refusal.number, |_| 0);
     let faulty = answer.err().and_then(|refusal| lines.get((refusal.place as usize).checked_sub(1)?));
     let byte = |words: &Vec<&[u8]>| byte_operand(table, words).and_then(number_of);
     let accepted = answer.is_ok();
     let some = |holds: &dyn Fn(&Vec<&[u8]>) -> bool| accepted && lines.iter().any(holds);
-    let character = |words: &Vec<&[u8]>, names: &[&str]| behind(words, names).and_then(number_of);
+    let character = |words: &Vec<&[u8]>, names: &[&str]| behind(words, names, 1).and_then(number_of);
     let second = |number: u32| number > 0xFF && Set::Iso8859_15.byte(number).is_some();
     let refused =
         |by: u32, holds: &dyn Fn((u32, bool)) -> bool| number == by && faulty.and_then(byte).is_some_and(holds);
@@ -356,14 +375,114 @@ fn sets_due(table: usize) -> &'static [usize] {
     }
 }
 
-/// What a call on a lent table may meet of its length and its last two words.
-const LENT_MEET: usize = 11;
+/// The pairs of a sound table.
+fn pairs_of(words: &[u32]) -> Pairs<'_> {
+    let count = words[..SET_WORD].chunks_exact(2).position(|pair| pair == [0, 0]);
+    Pairs(&words[..2 * count.unwrap_or(PAIRS)])
+}
+
+/// Whether a walk of at least one link leads from a character into the braille row.
+fn leads_to_braille(pairs: Pairs, character: u32) -> bool {
+    let walk = pairs.walk(character);
+    walk.links > 0 && of_braille(walk.end)
+}
+
+fn of_braille(character: u32) -> bool {
+    reference::braille_cell(character).is_some()
+}
+
+fn of_private(character: u32) -> bool {
+    reference::private_byte(character).is_some()
+}
+
+/// What a text table may meet of the braille row and the private row.
+const ROWS_MEET: usize = 17;
+
+fn rows_meet(
+    set: Set,
+    lines: &[Vec<&[u8]>],
+    answer: Result<u32, Refusal>,
+    words: &[u32],
+) -> [(&'static str, bool); ROWS_MEET] {
+    let number = answer.map_or_else(|refusal| refusal.number, |_| 0);
+    let faulty = answer.err().and_then(|refusal| lines.get((refusal.place as usize).checked_sub(1)?));
+    let pairs = Pairs(&words[..2 * answer.unwrap_or(0) as usize]);
+    let find = |character: u32| pairs.find(reference::local(character, set));
+    let defined = |words: &[&[u8]]| character_behind(words, &["char", "glyph", "alias"], 1);
+    let target = |words: &[&[u8]]| character_behind(words, &["alias"], 2);
+    let accepted = answer.is_ok();
+    let some = |holds: &dyn Fn(&[&[u8]]) -> bool| accepted && lines.iter().any(|words| holds(words));
+    let defines =
+        |of: &dyn Fn(u32) -> bool| some(&|words| defined(words).is_some_and(|one| of(one) && find(one).is_some()));
+    let leads = |of: &dyn Fn(u32) -> bool| {
+        some(&|words| {
+            let meaning = target(words).filter(|end| of(*end)).map(|end| Meaning::Alias(reference::local(end, set)));
+            meaning.is_some() && defined(words).and_then(find) == meaning
+        })
+    };
+    let asks = |of: &dyn Fn(u32) -> bool| {
+        some(&|words| character_behind(words, &["ifGlyph", "ifNotGlyph"], 1).is_some_and(of))
+    };
+    let refused = |by: u32, holds: &dyn Fn(&[&[u8]]) -> bool| number == by && faulty.is_some_and(|words| holds(words));
+    let byte = |of: fn(u32) -> bool| {
+        let holds =
+            |words: &[&[u8]]| behind(words, &["byte"], 1).and_then(number_of).is_some_and(|byte| !byte.1 && of(byte.0));
+        refused(7, &holds)
+    };
+    let some_private = |words: &[&[u8]]| defined(words).into_iter().chain(target(words)).any(of_private);
+    [
+        ("accepted", accepted),
+        ("  a definition for a private-row operand", defines(&of_private)),
+        ("    where the sets differ", defines(&differs_in_private_row)),
+        ("  an alias to a private-row operand", leads(&of_private)),
+        ("    where the sets differ", leads(&differs_in_private_row)),
+        ("  an alias into the braille row", leads(&of_braille)),
+        ("  a condition on the private row", asks(&of_private)),
+        ("  a condition on the braille row", asks(&of_braille)),
+        (
+            "  a condition on a walk into the braille row",
+            asks(&|asked| leads_to_braille(pairs, reference::local(asked, set))),
+        ),
+        ("  a definition for the braille row, not taken", some(&|words| defined(words).is_some_and(of_braille))),
+        ("refusal 22", number == 22),
+        ("  behind a condition", refused(22, &|words| words[0].starts_with(b"if"))),
+        ("  a loop too", refused(22, &|words| defined(words) == target(words))),
+        ("refusal 11 for a private-row operand", refused(11, &|words| defined(words).is_some_and(of_private))),
+        ("refusal 12 with a private-row operand", refused(12, &some_private)),
+        ("refusal 7 for a byte of the private row", byte(of_private)),
+        ("refusal 7 for a byte of the braille row", byte(of_braille)),
+    ]
+}
+
+/// What a lookup may meet of walks into the braille row.
+const WALKS_MEET: usize = 5;
+
+fn walks_meet(words: &[u32], character: u32, shown: Shown) -> [(&'static str, bool); WALKS_MEET] {
+    let pairs = pairs_of(words);
+    let local = Set::new(words[SET_WORD]).map_or(character, |set| reference::local(character, set));
+    let (rule, leads) = (shown.rule, |from: u32| leads_to_braille(pairs, from));
+    let near = || [reference::base(local), reference::stand_in(local)].into_iter().flatten().any(leads);
+    [
+        ("rule 4", rule == 4 && leads(local)),
+        ("  by two links or more", rule == 4 && shown.links > 1 && leads(local)),
+        ("rule 20", rule == 20 && leads(local)),
+        ("rules 7 to 9, a base or stand-in leads there", rule % 16 > 6 && near()),
+        ("rules 8 and 9, U+FFFD or ? leads there", rule % 16 > 7 && (leads(0xFFFD) || leads('?' as u32))),
+    ]
+}
+
+/// What a call on a lent table may meet of its length, its last two words and the two rows.
+const LENT_MEET: usize = 15;
 
 fn lent_meet(words: &[u32], refusal: Option<Refusal>) -> [(&'static str, bool); LENT_MEET] {
     let (number, place) = refusal.map_or((0, 0), |refusal| (refusal.number, refusal.place as usize));
     let last = words.get(SET_WORD..WORDS).unwrap_or(&[0, 0]);
     let (set, zero) = (Set::new(last[0]), last[1] == 0);
     let (before, at_last) = (number == 15 && place < PAIRS, number == 15 && place == PAIRS);
+    let [character, second] = if before { [words[2 * place], words[2 * place + 1]] } else { [0, 0] };
+    let target_of =
+        |of: fn(u32) -> bool, second| matches!(reference::meaning(second), Some(Meaning::Alias(end)) if of(end));
+    let to_braille = || pairs_of(words).0.iter().skip(1).step_by(2).any(|second| target_of(of_braille, *second));
     [
         ("refusal 2 for 2,048 words", number == 2 && words.len() == SET_WORD),
         ("refusal 2 for 2,049 words", number == 2 && words.len() == SET_WORD + 1),
@@ -374,15 +493,20 @@ fn lent_meet(words: &[u32], refusal: Option<Refusal>) -> [(&'static str, bool); 
         ("  neither", at_last && set.is_none() && !zero),
         ("refusal 15 before it, no set too", before && set.is_none()),
         ("refusal 15 before it, no zero too", before && !zero),
+        ("refusal 15 at a character of the braille row", of_braille(character)),
+        ("refusal 15 at a character of the private row", of_private(character)),
+        ("refusal 15 at a target of the private row", !of_private(character) && target_of(of_private, second)),
         ("accepted in ISO 8859-1", number == 0 && set == Some(Set::Iso8859_1)),
         ("accepted in ISO 8859-15", number == 0 && set == Some(Set::Iso8859_15)),
+        ("accepted with a target of the braille row", number == 0 && to_braille()),
     ]
 }
 
 /// What the lookup of a character on a table and on a grown one may meet.
-const GROWTH_MEETS: usize = 5;
+const GROWTH_MEETS: usize = 6;
 
-fn growth_meets(character: u32, first: Shown, grown: Shown) -> [(&'static str, bool); GROWTH_MEETS] {
+/// `braille` tells whether the walk on the grown table leads into the braille row.
+fn growth_meets(character: u32, first: Shown, grown: Shown, braille: bool) -> [(&'static str, bool); GROWTH_MEETS] {
     let fell = grown.rule < first.rule;
     [
         ("lookups", true),
@@ -390,15 +514,25 @@ fn growth_meets(character: u32, first: Shown, grown: Shown) -> [(&'static str, b
         ("  other links", first.links != grown.links),
         ("  a lower rule", fell),
         ("    on the private row, where the sets differ", fell && differs_in_private_row(character)),
+        ("    by a walk into the braille row", fell && braille),
     ]
 }
 
-/// Lines of text tables about a byte in which the sets differ, in every form of its characters.
-fn lines_about(byte: u8) -> Vec<String> {
+fn raw(character: u32) -> String {
+    char::from_u32(character).expect("a scalar").to_string()
+}
+
+/// The characters around a byte in which the sets differ.
+fn page_about(byte: u8) -> Vec<u32> {
+    let [first, second] = Set::ALL.map(|set| set.character(byte));
+    vec![first, second, 0xF000 + first, 0xF000 + first - 1, second + 1, 'b' as u32, 'z' as u32]
+}
+
+/// Such a byte in every form of its characters.
+fn operands_about(byte: u8) -> Vec<String> {
     let [first, second] = Set::ALL.map(|set| set.character(byte));
     let private = 0xF000 + u32::from(byte);
-    let raw = |character: u32| char::from_u32(character).expect("a scalar").to_string();
-    let operands = [
+    vec![
         raw(first),
         raw(second),
         raw(private),
@@ -407,16 +541,27 @@ fn lines_about(byte: u8) -> Vec<String> {
         format!("\\o{byte:03o}"),
         format!("\\u{second:04X}"),
         format!("\\U{private:08x}"),
-    ];
-    let forms = [
-        "char _ 1", "glyph _ 2", "byte _ 3", "alias _ z", "alias z _", "ifGlyph _ char b 4", "ifNotGlyph _ char b 5",
-        "_ 6", "byte _",
-    ];
-    forms.iter().flat_map(|form| operands.iter().map(|operand| form.replace('_', operand) + "\n")).collect()
+    ]
 }
 
-/// How many lines these are.
-const LINES_ABOUT: usize = 72;
+/// The characters in and around the two rows, and some that the private row stands for.
+const ABOUT_ROWS: [u32; 16] = [
+    0x27FF, 0x2800, 0x2841, 0x28FF, 0x2900, 0xEFFF, 0xF000, 0xF041, 0xF0FF, 0xF100, 0x12841, 0x1F041, 0x00, 0x41, 0xFF,
+    0x7A,
+];
+
+/// Lines with one operand in every place.
+const FORMS: [&str; 10] = [
+    "char _ 1", "glyph _ 2", "byte _ 3", "alias _ z", "alias z _", "alias _ _", "ifGlyph _ char b 4",
+    "ifNotGlyph _ char b 5", "_ 6", "byte _",
+];
+
+/// The text of two of these lines with any of the operands; the cases are the squares of their count.
+fn two_forms(operands: &[String], case: usize) -> String {
+    let count = FORMS.len() * operands.len();
+    let line = |which: usize| FORMS[which % FORMS.len()].replace('_', &operands[which / FORMS.len()]) + "\n";
+    line(case % count) + &line(case / count)
+}
 
 /// The columns of a number's refusals.
 #[derive(Clone, Default)]
@@ -462,7 +607,9 @@ struct Run {
     /// By table and by set.
     sets_met: [[[(&'static str, u64); SETS_MEET]; 2]; WITH_COLUMN.len()],
     lent_met: [(&'static str, u64); LENT_MEET],
+    walks_met: [(&'static str, u64); WALKS_MEET],
     /// By set.
+    rows_met: [[(&'static str, u64); ROWS_MEET]; 2],
     growth_met: [[(&'static str, u64); GROWTH_MEETS]; 2],
     /// Page calls beside accepted windows calls.
     pages_beside: u64,
@@ -685,22 +832,26 @@ impl Run {
     /// Compiles a text table in a set into `length` words; answers them and the count.
     fn compile(&mut self, set: Set, text: &[u8], length: usize) -> (Vec<u32>, Option<usize>) {
         let (answer, words) = self.compile_by(TEXT_EDITION, set.number(), text, length);
-        self.tally_text(TEXT_TABLE, set, text, answer);
+        self.tally_text(TEXT_TABLE, set, text, answer, &words);
         (words, answer.ok().map(|count| count as usize))
     }
 
     /// A byte table compiled in a set beside `words` words.
     fn compile_bytes(&mut self, set: Set, text: &[u8], words: usize) {
         let (answer, _) = self.compile_by(BYTE_EDITION, set.number(), text, words);
-        self.tally_text(BYTE_TABLE, set, text, answer);
+        self.tally_text(BYTE_TABLE, set, text, answer, &[]);
         count_met(&mut self.bytes_met, bytes_meet(text, answer));
     }
 
-    /// Counts what a text in a set met.
-    fn tally_text(&mut self, table: usize, set: Set, text: &[u8], answer: Result<u32, Refusal>) {
+    /// Counts what a text in a set met, for a text table with the words that it left.
+    fn tally_text(&mut self, table: usize, set: Set, text: &[u8], answer: Result<u32, Refusal>, words: &[u32]) {
         self.tally_column(table, text, &answer);
+        let lines: Vec<Vec<&[u8]>> = reference::lines(text).map(words_of).collect();
         let met = &mut self.sets_met[table][set as usize];
-        count_met(met, sets_meet(table, set, text, answer));
+        count_met(met, sets_meet(table, set, &lines, answer));
+        if table == TEXT_TABLE {
+            count_met(&mut self.rows_met[set as usize], rows_meet(set, &lines, answer, words));
+        }
     }
 
     /// The cells of a byte table in a buffer of that length.
@@ -816,6 +967,7 @@ impl Run {
         if let Ok(shown) = answer {
             self.rules[usize::from(shown.rule)] += 1;
             self.links = self.links.max(shown.links);
+            count_met(&mut self.walks_met, walks_meet(words, character, shown));
         }
         answer
     }
@@ -1092,10 +1244,7 @@ impl Run {
             let (Ok(before), Ok(after)) = answers else {
                 continue;
             };
-            let local = match reference::row(character, set) {
-                Row::Private(local) => local,
-                Row::Braille(_) | Row::Other(_) => character,
-            };
+            let local = reference::local(character, set);
             let end = Pairs(&words[..2 * count]).walk(local).end;
             let asked = [reference::base(local), reference::stand_in(local)].into_iter().flatten();
             let touched = asked.chain([local, end, 0xFFFD, '?' as u32]).any(|asked| added.contains(&asked));
@@ -1103,7 +1252,8 @@ impl Run {
             if spoiled || !touched && after != before {
                 self.differ(&side, LOOK_UP, before, after, || format!("growth, {character:X}, {}", input()));
             }
-            let met = growth_meets(character, before, after);
+            let braille = leads_to_braille(Pairs(&grown_words[..2 * grown_count]), local);
+            let met = growth_meets(character, before, after, braille);
             count_met(&mut self.growth_met[set as usize], met);
         }
         let [before, after] = [&words, &grown_words].map(|words| self.entries(words, CELLS));
@@ -1112,28 +1262,39 @@ impl Run {
         }
     }
 
-    /// Two lines about a byte in which the sets differ, in both sets and editions, and the characters around it.
-    fn two_lines(&mut self, byte: u8, text: &str) {
-        let [first, second] = Set::ALL.map(|set| set.character(byte));
-        let page = [first, second, 0xF000 + first, 0xF000 + first - 1, second + 1, 'b' as u32, 'z' as u32];
+    /// Two lines in both sets and editions, and the characters of a page by them.
+    fn two_lines(&mut self, page: &[u32], text: &str) {
         for set in Set::ALL {
             self.byte_table(set, text.as_bytes());
             let (words, count) = self.compile(set, text.as_bytes(), WORDS);
             if count.is_some() {
                 for character in page {
-                    let _ = self.look_up(&words, character);
+                    let _ = self.look_up(&words, *character);
                 }
-                self.page(&words, &page, page.len(), page.len());
+                self.page(&words, page, page.len(), page.len());
                 self.entries(&words, CELLS);
             }
         }
     }
 
+    /// A character as the operand of definitions and conditions, and in pairs of lent tables.
+    fn as_operand(&mut self, character: u32) {
+        let set = self.any_set();
+        let word = format!("\\U{character:08X}");
+        for text in ["alias z _\nifGlyph z char b 1\n", "glyph _ 12\nifGlyph _ char b 1\n"] {
+            let (words, count) = self.compile(set, text.replace('_', &word).as_bytes(), WORDS);
+            if count.is_some() {
+                self.page(&words, &['z' as u32, character], 2, 2);
+            }
+        }
+        for pair in [[character, 2 << 24 | 3], ['z' as u32, 3 << 24 | character]] {
+            let _ = self.look_up(&table_of(&pair, [set.number(), 0]), 'z' as u32);
+        }
+    }
+
     /// A table of each length around that of a table, with these two words last.
     fn last_words(&mut self, pairs: &[u32], last: [u32; 2]) {
-        let mut words = pairs.to_vec();
-        words.resize(SET_WORD, 0);
-        words.extend(last);
+        let mut words = table_of(pairs, last);
         words.extend(self.random_words(2));
         for length in SET_WORD - 1..=words.len() {
             let words = &words[..length];
@@ -1179,6 +1340,14 @@ impl Run {
     }
 }
 
+/// A table of these pairs with these two words last.
+fn table_of(pairs: &[u32], last: [u32; 2]) -> Vec<u32> {
+    let mut words = pairs.to_vec();
+    words.resize(SET_WORD, 0);
+    words.extend(last);
+    words
+}
+
 fn sides_of(case: u64) -> Vec<Side> {
     // The hashed side is looked at now and then, for the benchmark's sake.
     match case % 16 {
@@ -1204,6 +1373,8 @@ fn main() {
         windows_met: [("", 0); WINDOWS_MEET],
         sets_met: [[[("", 0); SETS_MEET]; 2]; WITH_COLUMN.len()],
         lent_met: [("", 0); LENT_MEET],
+        walks_met: [("", 0); WALKS_MEET],
+        rows_met: [[("", 0); ROWS_MEET]; 2],
         growth_met: [[("", 0); GROWTH_MEETS]; 2],
         pages_beside: 0,
         rules: [0; 32],
@@ -1374,8 +1545,9 @@ fn main() {
             "",
             "char A 1\nchar C 2\nchar E 3\nchar I 4\nchar N 5\nchar O 6\nchar U 7\nchar Y 8\nchar a 12\nchar c 13\nchar e 14\n\
              char i 15\nchar n 16\nchar o 17\nchar u 18\nchar y 23\nchar x 24\nchar s 25\nchar \\s 26\nchar - 27\nchar ' 28\n\
-             char \" 34\nchar \\uFFFD 35\nchar ? 36\nalias \\u00E4 \\uF041\nglyph \\u2801 37\nchar S 38\nchar Z 45\nchar z 46\n",
-            "char ? 1\nglyph \\uF041 2\nglyph A 3\nalias \\u2801 A\nalias \\uF042 A\nalias B \\uF041\nalias a \\u0301\n",
+             char \" 34\nchar \\uFFFD 35\nchar ? 36\nalias \\u00E4 \\uF041\nalias ā \\u28FF\nchar S 38\nchar Z 45\nchar z 46\n",
+            "char ? 1\nalias \\uFFFD \\u2801\nglyph \\uF041 2\nalias O \\u2841\nalias \\uF0E4 O\nalias B \\uF041\nalias a \\u0301\n\
+             alias C \\uF0E4\n",
             "byte \\xA4 1\nbyte \\xA6 2\nglyph \\xA8 3\nglyph š 4\nalias \\xB4 ž\nalias ž Œ\nchar Œ 5\nchar \\xBD 6\nbyte \\o276 7\n",
         ];
         let set = Set::ALL[case as usize / texts.len()];
@@ -1428,13 +1600,31 @@ fn main() {
             run.byte_table(set, format!("{character} 1").as_bytes());
         }
     });
-    part("any two lines", 20, (DIFFERENCES.len() * LINES_ABOUT.pow(2)) as u64, &|run, case| {
+    part("any operand", 23, 1 << 16, &|run, case| {
+        // Of the first plane each, and one of another with the same low bits.
+        let other = run.random.between(1, 16) as u32;
+        for character in [case as u32, other << 16 | case as u32].into_iter().filter(|one| reference::scalar(*one)) {
+            run.as_operand(character);
+        }
+    });
+    let lines_about = (FORMS.len() * operands_about(DIFFERENCES[0]).len()).pow(2);
+    part("any two lines", 20, (DIFFERENCES.len() * lines_about) as u64, &|run, case| {
         let case = case as usize;
-        let byte = DIFFERENCES[case / LINES_ABOUT.pow(2)];
-        let lines = lines_about(byte);
-        assert_eq!(lines.len(), LINES_ABOUT);
-        let text = [case % LINES_ABOUT, case / LINES_ABOUT % LINES_ABOUT].map(|which| lines[which].as_str()).concat();
-        run.two_lines(byte, &text);
+        let byte = DIFFERENCES[case / lines_about];
+        run.two_lines(&page_about(byte), &two_forms(&operands_about(byte), case % lines_about));
+    });
+    part("any two of rows", 24, (FORMS.len() * ABOUT_ROWS.len()).pow(2) as u64, &|run, case| {
+        run.two_lines(&ABOUT_ROWS, &two_forms(&ABOUT_ROWS.map(raw), case as usize));
+    });
+    part("full tables", 25, (LAST_LINES.len() * BEFORE_LAST.len()) as u64, &|run, case| {
+        let case = case as usize;
+        let (before, last) = (BEFORE_LAST[case % BEFORE_LAST.len()], LAST_LINES[case / BEFORE_LAST.len()]);
+        for count in [PAIRS - 1, PAIRS] {
+            let pairs: String = (0..count).map(|k| format!("glyph \\u{:04X} 1\n", 0x4000 + k)).collect();
+            for set in Set::ALL {
+                run.compile(set, format!("{pairs}{before}{last}").as_bytes(), WORDS);
+            }
+        }
     });
     part("last words", 21, 300 + 96 + 4, &|run, case| {
         let case = case as u32;
@@ -1532,14 +1722,18 @@ fn main() {
     print_met("windows call", &run.windows_met);
     println!("compile calls by edition 1: {}", run.calls[COMPILE_BYTES]);
     print_met("compile call by edition 1", &run.bytes_met);
-    println!("calls on lent tables, their length and last words:");
+    println!("calls on lent tables, their length, last words and rows:");
     print_met("lent table", &run.lent_met);
+    println!("lookups of walks into the braille row:");
+    print_met("walk into the braille row", &run.walks_met);
     for (which, set) in ["ISO 8859-1", "ISO 8859-15"].into_iter().enumerate() {
         for (table, name) in [(TEXT_TABLE, "text tables"), (BYTE_TABLE, "byte tables")] {
             println!("{name} in {set}, around the bytes in which the sets differ:");
             let met: Vec<_> = sets_due(table).iter().map(|fact| run.sets_met[table][which][*fact]).collect();
             print_met(&format!("{name} in {set}"), &met);
         }
+        println!("text tables in {set}, around the braille row and the private row:");
+        print_met(&format!("rows in {set}"), &run.rows_met[which]);
         println!("tables in {set} that grow:");
         print_met(&format!("growth in {set}"), &run.growth_met[which]);
     }

@@ -1,5 +1,5 @@
-//! The worked examples and edges of document 01, the blocks, windows, columns, byte tables and character sets of document 02
-//! and the settled readings, with the answers written out, on every side.
+//! The worked examples and edges of document 01, the blocks, windows, columns, byte tables, character sets and aliases into
+//! the braille row of document 02 and the settled readings, with the answers written out, on every side.
 
 use harness::reference::{
     self, Place, Refusal, Shown, Window, BYTE_EDITION, ISO_8859_1, ISO_8859_15, TEXT_EDITION, WORDS,
@@ -26,7 +26,7 @@ fn compiled(text: &[u8]) -> Vec<u32> {
 
 /// Number and place of a refusal, which has a column exactly if it is of a number with one.
 fn pair(refusal: Refusal) -> (u32, u32) {
-    assert_eq!(refusal.column > 0, matches!(refusal.number, 3..=13 | 16 | 17), "{refusal}");
+    assert_eq!(refusal.column > 0, matches!(refusal.number, 3..=13 | 16 | 17 | 22), "{refusal}");
     (refusal.number, refusal.place)
 }
 
@@ -89,10 +89,14 @@ fn shows_in(set: u32, text: &str, character: u32, cell: u8, rule: u8, links: u32
 
 fn types(text: &str, cell: u8, character: Option<u32>) {
     for set in SETS {
-        let words = compiled_in(set, text.as_bytes());
-        for side in SIDES {
-            assert_eq!((side.typed)(&words, cell), Ok(character), "{}: set {set}, {text:?} {cell:X}", side.name);
-        }
+        types_in(set, text, cell, character);
+    }
+}
+
+fn types_in(set: u32, text: &str, cell: u8, character: Option<u32>) {
+    let words = compiled_in(set, text.as_bytes());
+    for side in SIDES {
+        assert_eq!((side.typed)(&words, cell), Ok(character), "{}: set {set}, {text:?} {cell:X}", side.name);
     }
 }
 
@@ -308,11 +312,8 @@ fn conditions() {
         &[alias_pair('b', 'a'), glyph_pair('a', 1), char_pair('d', 1)],
     );
     accepts("char a 1\nifGlyph \\uF061 char c 1\nifGlyph \\u00E0 char d 1", &[char_pair('a', 1), char_pair('c', 1)]);
-    accepts(
-        "char \\u2801 1\nifGlyph \\u2801 char c 1\nifNotGlyph \\u2801 char d 1",
-        &[char_pair('\u{2801}', 1), char_pair('d', 1)],
-    );
-    accepts("char \\uF061 1\nifGlyph \\uF061 char c 1", &[char_pair('\u{F061}', 1)]);
+    accepts("ifGlyph \\u2801 char c 1\nifNotGlyph \\u2801 char d 1", &[char_pair('d', 1)]);
+    accepts("char \\uF061 1\nifGlyph \\uF061 char c 1", &[char_pair('a', 1), char_pair('c', 1)]);
 }
 
 /// What a table of examples says of a text: the characters of its definitions in order, or number and line.
@@ -932,6 +933,18 @@ fn columns_of_effects() {
         ("ifNotGlyph 𝄞 alias 𝄞 𝄞", [12, 1, 17]),
         ("alias a b\n\talias b a", [12, 2, 2]),
         ("ifNotGlyph b\n ifNotCell 1  alias a a \nendIf", [12, 2, 15]),
+        ("char ⠁ 1", [22, 1, 1]),
+        ("\n \tglyph \\u2801 1", [22, 2, 3]),
+        ("alias ⠁ a", [22, 1, 1]),
+        ("ifNotGlyph a alias ⠁ ⠁", [22, 1, 14]),
+        ("ifNotGlyph é char \\u28FF (1 2) # x\r\n", [22, 1, 15]),
+        ("ifNotGlyph € glyph ⠀ 1", [22, 1, 16]),
+        ("ifNotGlyph 𝄞 alias ⠁ 𝄞", [22, 1, 17]),
+        ("ifNotGlyph ⠁ ifNotGlyph \u{F0E9} char ⠁ 1", [22, 1, 31]),
+        ("ifGlyph a\nelse\n \tifNotCell 1  char ⠁ 1 \nendIf", [22, 3, 16]),
+        // What stands there counts as it is written.
+        ("char é 1\nifGlyph \u{F0E9} char \u{F0E9} 1", [11, 2, 13]),
+        ("ifNotGlyph \u{F041} alias \\uF041 A", [12, 1, 16]),
     ]);
     let full: String = (0..1024).map(|k| format!("glyph \\u{:04X} 1\n", 0x4000 + k)).collect();
     columns(&[
@@ -944,6 +957,9 @@ fn columns_of_effects() {
         (format!("{full}ifNotCell 1 char a 1 x"), [9, 1025, 22]),
         (format!("{full}ifNotCell 1 char \\u4000 1"), [11, 1025, 13]),
         (format!("{full}ifNotCell 1 alias a a"), [12, 1025, 13]),
+        (format!("{full} char ⠁ 1"), [22, 1025, 2]),
+        (format!("{full}ifNotCell 1 alias ⠁ ⠁"), [22, 1025, 13]),
+        (format!("{full}ifNotCell 1 char ⠁ 1 x"), [9, 1025, 24]),
     ]);
 }
 
@@ -971,11 +987,11 @@ fn rules() {
     shows("alias z \\u00E0\nchar a 1\n", 'z' as u32, 0xFF, 9, 1);
     shows("alias z y\nalias y x\nglyph \\uFFFD 2\nchar ? 3\n", 'z' as u32, 2, 7, 2);
     shows("char ? 3\n", 0xF0E0, 4, 24, 0);
-    shows("char A 3\nalias x \\uF041\n", 'x' as u32, 0xFF, 9, 1);
+    shows("char A 3\nalias x \\uF041\n", 'x' as u32, 4, 4, 1);
     shows("char \\uF041 3\nalias x \\uF041\n", 'x' as u32, 4, 4, 1);
-    shows("char \\uF041 3\n", 0xF041, 0xFF, 25, 0);
-    shows("char \\u2801 3\nalias x \\u2801\n", 'x' as u32, 4, 4, 1);
-    shows("char \\u2801 3\n", 0x2801, 1, 1, 0);
+    shows("char \\uF041 3\n", 0xF041, 4, 19, 0);
+    shows("alias x \\u2801\n", 'x' as u32, 1, 4, 1);
+    shows("alias x \\u2801\n", 0x2801, 1, 1, 0);
     shows("alias A x\nchar x 3\n", 0xF041, 4, 20, 1);
     shows("char A 3\n", 0xF0C0, 4, 21, 0);
     shows("char A 3\n", 0xF0C6, 4, 22, 0);
@@ -993,7 +1009,8 @@ fn rules() {
 fn typing() {
     types("glyph x 1\nchar a 1\nchar b 1\n", 1, Some('a' as u32));
     types("char \\x00 1\n", 1, Some(0));
-    types("char \\u2801 12\n", 3, Some(0x2801));
+    types("char \\uF041 3\n", 4, Some('A' as u32));
+    types("alias x \\u2801\n", 1, None);
     types("char a 0\n", 0, Some('a' as u32));
     types("byte a 1\nalias b a\n", 1, None);
 }
@@ -1309,7 +1326,7 @@ fn entries() {
     entries_are(&of(SMALL), Ok(&[(0x01, 0x62), (0x03, 0x63), (0x39, 0x40)]));
     entries_are(&of("char \\x00 0\nchar \\U0010FFFF 12345678\n"), Ok(&[(0, 1), (255, 0x11_0000)]));
     entries_are(&of("glyph x 1\nchar a 1\nchar b 1\nbyte c 2\nalias d a\n"), Ok(&[(1, 0x62)]));
-    entries_are(&of("char \\u2801 12\nchar \\uF041 3\n"), Ok(&[(3, 0x2802), (4, 0xF042)]));
+    entries_are(&of("alias x \\u2803\nchar \\uF041 3\n"), Ok(&[(4, 0x42)]));
     let mut words = of(SMALL);
     for length in [0, 2047, 2048, 2049] {
         entries_are(&words[..length], Err((2, 0)));
@@ -2038,11 +2055,6 @@ fn other_operands_in_every_set() {
             types(&format!("char {form} 1"), 1, Some(first as u32));
         }
         types(&format!("char {second} 1"), 1, Some(second as u32));
-        let private = char::from_u32(0xF000 + u32::from(byte)).expect("a scalar");
-        accepts(&format!("char {private} 1"), &[char_pair(private, 1)]);
-        types(&format!("char {private} 1"), 1, Some(private as u32));
-        // Rule 2 has no part in a walk.
-        shows(&format!("alias a {private}\nchar {first} 1\nchar {second} 1"), 'a' as u32, 0xFF, 9, 1);
     }
 }
 
@@ -2245,5 +2257,360 @@ fn last_words_of_a_table() {
             words[2 * place] = 0xD800;
             refused(&words, 15, place as u32);
         }
+    }
+}
+
+// In what follows ⠁ is U+2801, which shows 01, and \uF041 stands for A in either set.
+
+/// The writings of a character: itself, and by its number.
+fn writings(character: u32) -> Vec<String> {
+    let itself = char::from_u32(character).expect("a scalar").to_string();
+    let mut words = vec![itself, format!("\\U{character:08x}")];
+    if character <= 0xFFFF {
+        words.push(format!("\\u{character:04X}"));
+    }
+    words
+}
+
+#[test]
+fn definitions_for_the_braille_row() {
+    for character in [0x2800, 0x2801, 0x2841, 0x287F, 0x2880, 0x28FF] {
+        for word in writings(character) {
+            for line in [
+                format!("char {word} 1"),
+                format!("glyph {word} 0"),
+                format!("alias {word} a"),
+                format!("alias {word} {word}"),
+            ] {
+                refuses(&line, 22);
+                refuses_at(&format!("char a 1\n{line} # x\n"), 22, 2);
+                // As for 11 a failed condition hides it, and lines not taken do.
+                accepts(&format!("ifGlyph a {line}"), &[]);
+                accepts(&format!("ifNotGlyph a ifCell 1 {line}"), &[]);
+                accepts(&format!("ifGlyph a\n{line}\nendIf"), &[]);
+                accepts(&format!("ifNotGlyph a\nelse\n{line}\nendIf"), &[]);
+                accepts(&format!("ifGlyph a ifNotGlyph b\n{line}\nelse\n{line}\nendIf"), &[]);
+                refuses(&format!("ifNotGlyph a {line}"), 22);
+                refuses_at(&format!("ifGlyph a\nelse\n{line}\nendIf"), 22, 3);
+                refuses_at(&format!("ifNotGlyph a\n{line}"), 22, 2);
+                // The line is read to its end before.
+                refuses(&format!("{line} x"), 9);
+            }
+            refuses(&format!("char {word}"), 6);
+            refuses(&format!("char {word} 9"), 8);
+            refuses(&format!("alias {word} bc"), 7);
+            refuses(&format!("char {word}{word} 1"), 7);
+            // No set has it.
+            refuses(&format!("byte {word} 1"), 7);
+            byte_table_is(format!("{word} 1"), Err([7, 1, 1]));
+            byte_table_is(format!("byte {word} 1"), Err([7, 1, 6]));
+        }
+    }
+    for character in ['\u{27FF}', '\u{2900}', '\u{12801}', '\u{2701}', '\u{2A01}'] {
+        for word in writings(character as u32) {
+            accepts(&format!("char {word} 1"), &[char_pair(character, 1)]);
+            accepts(&format!("glyph {word} 1"), &[glyph_pair(character, 1)]);
+            accepts(&format!("alias {word} a"), &[alias_pair(character, 'a')]);
+        }
+    }
+}
+
+#[test]
+fn braille_row_before_loops_and_count() {
+    // A braille-row character is never defined, so 11 never meets 22.
+    refuses_at("char a 1\nalias ⠁ a\nalias ⠁ a", 22, 2);
+    refuses("alias ⠁ ⠁", 22);
+    refuses_at("alias a ⠁\nalias ⠁ a", 22, 2);
+    refuses_at("alias a ⠁\nalias b a\nalias ⠁ b", 22, 3);
+    // The first faulty line decides.
+    refuses_at("alias a a\nchar ⠁ 1", 12, 1);
+    refuses_at("char ⠁ 1\nalias a a", 22, 1);
+    refuses_at("char ⠁ 1\nx", 22, 1);
+    refuses_at("ifGlyph a\nelse\nchar ⠁ 1", 22, 3);
+    let full: String = (0..1024).map(|k| format!("glyph \\u{:04X} 1\n", 0x4000 + k)).collect();
+    refuses_at(&format!("{full}char ⠁ 1"), 22, 1025);
+    refuses_at(&format!("{full}alias ⠁ ⠁"), 22, 1025);
+    refuses_at(&format!("{full}alias a ⠁"), 13, 1025);
+    refuses_at(&format!("{full}alias \\uF041 A"), 12, 1025);
+    refuses_at(&format!("{full}char \\uF041 1"), 13, 1025);
+    expect_bytes(format!("{full}ifCell 1 char ⠁ 1").as_bytes(), Ok(1024), None);
+}
+
+#[test]
+fn walks_into_the_braille_row() {
+    for cell in 0..=255 {
+        let target = 0x2800 + u32::from(cell);
+        for word in writings(target) {
+            let text = format!("alias x {word}\nalias A x\nalias é A\n");
+            let pairs = [[0x78, 0x0300_0000 + target], alias_pair('A', 'x'), alias_pair('é', 'A')];
+            accepts(&text, &pairs);
+            for (character, rule, links) in [(0x78, 4, 1), (0x41, 4, 2), (0xE9, 4, 3)] {
+                shows(&text, character, cell, rule, links);
+                shows(&text, 0xF000 + character, cell, rule + 16, links);
+            }
+            shows(&text, target, cell, 1, 0);
+            types(&text, cell, None);
+        }
+    }
+    // Next to the row a walk ends as before.
+    for word in ["\\u27FF", "\\u2900", "\\U00012801"] {
+        shows(&format!("alias x {word}\n"), 'x' as u32, 0xFF, 9, 1);
+        shows(&format!("alias x {word}\nchar {word} 12\n"), 'x' as u32, 3, 4, 1);
+    }
+    // Two aliases to one target, in any order, and beside explicit cells.
+    shows("alias y x\nalias x ⠁\n", 'y' as u32, 1, 4, 2);
+    shows("alias x ⠁\nalias y ⠁\n", 'y' as u32, 1, 4, 1);
+    shows("char \\uFFFD 2\nchar ? 3\nalias x ⠁\n", 'x' as u32, 1, 4, 1);
+    shows("char \\uFFFD 2\nchar ? 3\nalias x ⠁\n", 'y' as u32, 2, 7, 0);
+    // Where its own walk ends there, rules 5 and 6 are not asked.
+    shows("char a 12\nalias à ⠁\nalias æ ⠂\n", 0xE0, 1, 4, 1);
+    shows("char a 12\nalias à ⠁\nalias æ ⠂\n", 0xF0E6, 2, 20, 1);
+    // Rule 2, then a walk that begins at the local character of the set.
+    shows_in(ISO_8859_1, "alias € ⠁\nalias ¤ ⠃\n", 0xF0A4, 3, 20, 1);
+    shows_in(ISO_8859_15, "alias € ⠁\nalias ¤ ⠃\n", 0xF0A4, 1, 20, 1);
+}
+
+#[test]
+fn no_explicit_cell_of_the_braille_row() {
+    // Rules 5 to 8 take an explicit cell alone.
+    shows("alias a \\u2801\n", 0xE0, 0xFF, 9, 0);
+    shows("alias a \\u2801\n", 0xF0E0, 0xFF, 25, 0);
+    shows("alias a \\u2801\n", 0xE6, 0xFF, 9, 0);
+    shows("alias - ⠁\n", 0x2010, 0xFF, 9, 0);
+    shows("alias \\uFFFD ⠁\n", 'z' as u32, 0xFF, 9, 0);
+    shows("alias ? ⠁\n", 'z' as u32, 0xFF, 9, 0);
+    shows("alias ? ⠁\n", '?' as u32, 1, 4, 1);
+    shows("alias \\uFFFD ⠁\nchar ? 12\n", 'z' as u32, 3, 8, 0);
+    shows("alias a ⠁\nchar ? 12\n", 0xE0, 3, 8, 0);
+    shows("alias à b\nalias a ⠁\n", 0xE0, 0xFF, 9, 1);
+    // No cell is typed by it, for `ifCell` neither.
+    accepts("alias a ⠁\nifCell 1 char b 1\nifNotCell 1 char c 1", &[alias_pair('a', '⠁'), char_pair('c', 1)]);
+    types("alias a ⠁\nchar b 1\nchar c 1\n", 1, Some('b' as u32));
+}
+
+#[test]
+fn conditions_on_the_braille_row() {
+    let alias = alias_pair('a', '⠁');
+    accepts("alias a ⠁\nifGlyph a char c 1\nifNotGlyph a char d 1", &[alias, char_pair('c', 1)]);
+    accepts("alias a ⠁\nifGlyph \\uF061 char c 1\nifNotGlyph \\uF061 char d 1", &[alias, char_pair('c', 1)]);
+    accepts(
+        "alias b a\nalias a ⠁\nifGlyph b\nchar c 1\nelse\nchar d 1\nendIf",
+        &[alias_pair('b', 'a'), alias, char_pair('c', 1)],
+    );
+    accepts(
+        "alias b a\nifGlyph b char c 1\nalias a ⠀\nifGlyph b char d 1",
+        &[alias_pair('b', 'a'), alias_pair('a', '⠀'), char_pair('d', 1)],
+    );
+    // Not by rule 5, and not on the row itself, whatever leads there.
+    accepts("alias a ⠁\nifGlyph à char c 1\nifGlyph æ char d 1", &[alias]);
+    for word in ["⠁", "\\u2800", "\\U000028ff"] {
+        accepts(
+            &format!("alias a ⠁\nifGlyph {word} char c 1\nifNotGlyph {word} char d 1"),
+            &[alias, char_pair('d', 1)],
+        );
+    }
+    for character in ['\u{27FF}', '\u{2900}'] {
+        let text = format!("glyph {character} 1\nifGlyph {character} char c 1");
+        accepts(&text, &[glyph_pair(character, 1), char_pair('c', 1)]);
+    }
+}
+
+/// In every set with the local character of each byte, and with every writing of its private-row character.
+fn private_operands(each: impl Fn(u32, char, String)) {
+    for set in SETS {
+        for byte in 0..=255 {
+            for word in writings(0xF000 + u32::from(byte)) {
+                each(set, local(set, byte), word);
+            }
+        }
+    }
+}
+
+#[test]
+fn private_row_operands() {
+    // U+FDD0 is in no set and means nothing to the rules.
+    let other = '\u{FDD0}';
+    private_operands(|set, own, word| {
+        let says =
+            |text: String, pairs: &[[u32; 2]]| expect_in(set, text.as_bytes(), Ok(pairs.len() as u32), Some(pairs));
+        says(format!("char {word} 1"), &[char_pair(own, 1)]);
+        says(format!("glyph {word} 1"), &[glyph_pair(own, 1)]);
+        says(format!("alias {word} {other}"), &[alias_pair(own, other)]);
+        says(format!("alias {other} {word}"), &[alias_pair(other, own)]);
+        says(format!("alias {word} ⠁"), &[alias_pair(own, '⠁')]);
+        // A failed condition hides 11 and 12, which look at what takes its place.
+        for line in [format!("char {word} 1"), format!("glyph {word} 1"), format!("alias {word} {other}")] {
+            let own = u32::from(own);
+            let text = format!("glyph \\u{own:04X} 2\n{line}");
+            expect_in(set, text.as_bytes(), Err((11, 2)), None);
+            expect_in(set, format!("{line}\nchar \\u{own:04X} 2").as_bytes(), Err((11, 2)), None);
+            expect_in(set, format!("{line}\n{line}").as_bytes(), Err((11, 2)), None);
+            expect_in(set, format!("glyph \\u{own:04X} 2\nifCell 8 {line}").as_bytes(), Ok(1), None);
+        }
+        for itself in writings(own as u32).iter().skip(1).chain([&word]) {
+            for (text, line) in [
+                (format!("alias {word} {itself}"), 1),
+                (format!("alias {itself} {word}"), 1),
+                (format!("alias {itself} {other}\nalias {other} {word}"), 2),
+                (format!("alias {other} {word}\nalias {itself} {other}"), 2),
+            ] {
+                expect_in(set, text.as_bytes(), Err((12, line)), None);
+            }
+            expect_in(set, format!("ifCell 8 alias {word} {itself}").as_bytes(), Ok(0), None);
+        }
+        says(
+            format!("glyph {word} 1\nifGlyph {word} alias {other} {word}"),
+            &[glyph_pair(own, 1), alias_pair(other, own)],
+        );
+        says(format!("ifGlyph {word} char {other} 1\nifNotGlyph {word} glyph {other} 2"), &[glyph_pair(other, 2)]);
+        // A byte operand of it is bad as before.
+        for text in [format!("byte {word} 1"), format!("ifCell 1 byte {word} 1")] {
+            expect_in(set, text.as_bytes(), Err((7, 1)), None);
+        }
+        byte_table_in(set, format!("{word} 1").as_bytes(), Err([7, 1, 1]));
+        byte_table_in(set, format!("byte {word} 1").as_bytes(), Err([7, 1, 6]));
+    });
+}
+
+#[test]
+fn private_row_shown_and_typed() {
+    private_operands(|set, own, word| {
+        let own = own as u32;
+        let text = format!("char {word} 123\n");
+        shows_in(set, &text, own, 7, 3, 0);
+        types_in(set, &text, 7, Some(own));
+        let text = format!("alias \\uFDD0 {word}\nglyph \\u{own:04X} 123\n");
+        shows_in(set, &text, 0xFDD0, 7, 4, 1);
+    });
+    for (byte, first, second) in DIFFERENCES {
+        let private = 0xF000 + u32::from(byte);
+        for word in writings(private) {
+            for (set, own, other) in [(ISO_8859_1, first, second), (ISO_8859_15, second, first)] {
+                let text = format!("char {word} 1\nchar {other} 12\n");
+                shows_in(set, &text, own as u32, 1, 3, 0);
+                shows_in(set, &text, other as u32, 3, 3, 0);
+                shows_in(set, &text, private, 1, 19, 0);
+                types_in(set, &text, 1, Some(own as u32));
+                let text = format!("alias a {word}\nchar {own} 1\nchar {other} 12\n");
+                shows_in(set, &text, 'a' as u32, 1, 4, 1);
+                let text = format!("alias {word} ⠿\nalias a {word}\n");
+                shows_in(set, &text, own as u32, 0x3F, 4, 1);
+                shows_in(set, &text, other as u32, 0xFF, 9, 0);
+                shows_in(set, &text, private, 0x3F, 20, 1);
+                shows_in(set, &text, 'a' as u32, 0x3F, 4, 2);
+                // In a loop, and with the other set's character in none.
+                expect_in(set, format!("alias {own} {word}").as_bytes(), Err((12, 1)), None);
+                expect_in(set, format!("alias {other} {word}").as_bytes(), Ok(1), Some(&[alias_pair(other, own)]));
+                expect_in(set, format!("char {other} 1\nchar {word} 1").as_bytes(), Ok(2), None);
+            }
+        }
+    }
+}
+
+#[test]
+fn around_the_private_row() {
+    refuses("alias \\uF041 A", 12);
+    refuses("alias A \\uF041", 12);
+    refuses_at("alias A b\nalias b \\uF041", 12, 2);
+    refuses_at("alias \\uF041 b\nalias b A", 12, 2);
+    refuses_at("char A 1\nchar \\uF041 2", 11, 2);
+    refuses_at("char \\uF041 1\nbyte A 2", 11, 2);
+    // Each condition of a line.
+    accepts(
+        "char A 1\nifGlyph A ifGlyph \\uF041 ifNotGlyph \u{F042} char b 1",
+        &[char_pair('A', 1), char_pair('b', 1)],
+    );
+    accepts(
+        "char A 1\nifGlyph \u{F041} ifNotGlyph \\uF041\nchar b 1\nelse\nchar c 1\nendIf",
+        &[char_pair('A', 1), char_pair('c', 1)],
+    );
+    // One step, and no base: the local character of U+F0C1 is Á.
+    accepts("char \\uF0C1 1\nchar \\uF041 2", &[char_pair('Á', 1), char_pair('A', 2)]);
+    // What an escape cannot be on its own, the private row may stand for.
+    accepts(
+        "char \u{F020} 1\nchar \u{F009} 1\nchar \u{F00A} 1\nchar \u{F05C} 1\nchar \u{F023} 1\nchar \u{F000} 1",
+        &[' ', '\t', '\n', '\\', '#', '\0'].map(|character| char_pair(character, 1)),
+    );
+    // As text in comments and as part of a word it is itself.
+    accepts("# \u{F041}\nchar a 1 #\u{F041}", &[char_pair('a', 1)]);
+    refuses("char \u{F041}\u{F041} 1", 7);
+    refuses("\u{F063}har a 1", 5);
+    refuses("char a \u{F031}", 8);
+    refuses("char a 1 \u{F023}", 9);
+    // Next to the row a character stays.
+    for character in ['\u{EFFF}', '\u{F100}', '\u{F141}', '\u{E041}', '\u{1F041}'] {
+        for word in writings(character as u32) {
+            accepts(&format!("char {word} 1\nchar A 2"), &[char_pair(character, 1), char_pair('A', 2)]);
+            accepts(&format!("alias {word} A"), &[alias_pair(character, 'A')]);
+            accepts(&format!("alias A {word}"), &[alias_pair('A', character)]);
+            accepts(&format!("char A 1\nifGlyph {word} char b 1"), &[char_pair('A', 1)]);
+            shows(&format!("char {word} 1\n"), character as u32, 1, 3, 0);
+            types(&format!("char {word} 1\n"), 1, Some(character as u32));
+            shows("char A 1\n", character as u32, 0xFF, 9, 0);
+            refuses(&format!("byte {word} 1"), 7);
+        }
+    }
+}
+
+#[test]
+fn rows_of_lent_tables() {
+    let table = |pairs: &[[u32; 2]], set: u32| {
+        let mut words = pairs.concat();
+        words.resize(2048, 0);
+        words.extend([set, 0]);
+        words
+    };
+    let fault = |pairs: &[[u32; 2]], place: u32| {
+        for set in SETS {
+            let words = table(pairs, set);
+            for side in SIDES {
+                let input = || format!("{}: {pairs:X?}", side.name);
+                let (mut cells, mut rules) = ([5; 2], [6; 2]);
+                assert_eq!((side.look_up)(&words, 0xD800).map_err(pair), Err((15, place)), "{}", input());
+                assert_eq!((side.typed)(&words, 1).map_err(pair), Err((15, place)), "{}", input());
+                let got = (side.page)(&words, &[0xD800, 0x61], &mut cells, &mut rules).map_err(pair);
+                assert_eq!((got, cells, rules), (Err((15, place)), [5; 2], [6; 2]), "{}", input());
+                assert_eq!((side.entries)(&words, &mut [0; 256]).map_err(pair), Err((15, place)), "{}", input());
+            }
+        }
+    };
+    let sound = |pairs: &[[u32; 2]], character: u32, shown: Shown| {
+        for set in SETS {
+            for side in SIDES {
+                assert_eq!((side.look_up)(&table(pairs, set), character), Ok(shown), "{}: {pairs:X?}", side.name);
+            }
+        }
+    };
+    for character in (0x2800..=0x28FF).chain(0xF000..=0xF0FF) {
+        for second in [0x0100_0001, 0x0200_0001, 0x0300_0061, 0x0300_2801, 0x0300_0000 + character] {
+            fault(&[[character, second]], 0);
+        }
+        fault(&[[0x61, 0x0100_0001], [character, 0x0100_0001]], 1);
+    }
+    for target in 0xF000..=0xF0FF {
+        fault(&[[0x61, 0x0300_0000 + target]], 0);
+        fault(&[[0x61, 0x0300_2801], [0x62, 0x0300_0000 + target]], 1);
+    }
+    for cell in 0..=255 {
+        let shown = Shown { cell, rule: 4, links: 1 };
+        sound(&[[0x61, 0x0300_2800 + u32::from(cell)]], 0x61, shown);
+        let pairs = [[0x62, 0x0300_0061], [0x61, 0x0300_2800 + u32::from(cell)]];
+        sound(&pairs, 0xF062, Shown { cell, rule: 20, links: 2 });
+        sound(&pairs, 0xE1, Shown { cell: 0xFF, rule: 9, links: 0 });
+    }
+    for character in [0x27FF, 0x2900, 0xEFFF, 0xF100, 0x12801, 0x1F041] {
+        sound(&[[character, 0x0100_0003]], character, Shown { cell: 3, rule: 3, links: 0 });
+        sound(&[[0x61, 0x0300_0000 + character]], 0x61, Shown { cell: 0xFF, rule: 9, links: 1 });
+    }
+    // The first pair at fault, whatever is at fault with it, before the last two words.
+    fault(&[[0x2801, 0x0100_0001], [0x61, 0]], 0);
+    fault(&[[0x61, 0], [0x2801, 0x0100_0001]], 0);
+    fault(&[[0x61, 0x0100_0001], [0x61, 0x0300_F041], [0xF041, 0x0100_0001]], 1);
+    fault(&[[0, 0], [0x2801, 0x0100_0001]], 1);
+    for side in SIDES {
+        let mut words = table(&[[0x61, 0x0300_F041]], 0);
+        assert_eq!((side.look_up)(&words, 0x61).map_err(pair), Err((15, 0)), "{}", side.name);
+        words[1] = 0x0300_2841;
+        assert_eq!((side.look_up)(&words, 0x61).map_err(pair), Err((15, 1024)), "{}", side.name);
     }
 }

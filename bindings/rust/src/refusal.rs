@@ -9,17 +9,17 @@ use std::fmt;
 /// ```
 #[derive(Clone, Copy, Debug, PartialEq, Eq)]
 pub struct Refusal {
-    /// 1 to 21; 0 for an answer that the call never gives.
+    /// 1 to 22; 0 for an answer that the call never gives.
     pub number: u32,
     /// A line from 1, or a pair of words, a character or a window of a call's list from 0; 2^32 - 1 also for a greater
     /// one. The last two words of a table are pair 1,024.
     pub place: u32,
-    /// Where on its line the text is at fault, in bytes from 1, for 3 to 13, 16 and 17; 0 for all other numbers.
+    /// Where on its line the text is at fault, in bytes from 1, for 3 to 13, 16, 17 and 22; 0 for all other numbers.
     ///
     /// The first byte of the word or operand at fault; for 3 byte 1,025, for 4 the first byte of the bad sequence, for 6
     /// one past the line's last byte, its end (LF, one CR) not counted, for 10 the condition word that is one too many, for
-    /// 11 to 13 the directive word that took effect, in an old byte table the first word of the line. 2^16 - 1 also for a
-    /// greater one, which no text has.
+    /// 11 to 13 and 22 the directive word that took effect, in an old byte table the first word of the line. 2^16 - 1 also
+    /// for a greater one, which no text has.
     pub column: u32,
 }
 
@@ -49,6 +49,7 @@ impl Refusal {
             19 => "window beyond the page",
             20 => "edition neither 1 nor 2",
             21 => "local character set neither 1 nor 2",
+            22 => "definition for a character of the braille row",
             _ => "refused for a reason unknown here",
         }
     }
@@ -59,7 +60,7 @@ impl fmt::Display for Refusal {
         let place = match self.number {
             0 => "answer",
             1 | 2 | 20 | 21 => "",
-            3..=13 | 16..=18 => "line",
+            3..=13 | 16..=18 | 22 => "line",
             14 => "character",
             15 => "pair",
             19 => "window",
@@ -97,7 +98,8 @@ mod tests {
             (19, 4, 0, "window 4: window beyond the page (refusal 19)"),
             (20, 0, 0, "edition neither 1 nor 2 (refusal 20)"),
             (21, 0, 0, "local character set neither 1 nor 2 (refusal 21)"),
-            (22, 4, 0, "place 4: refused for a reason unknown here (refusal 22)"),
+            (22, 4, 10, "line 4, column 10: definition for a character of the braille row (refusal 22)"),
+            (23, 4, 0, "place 4: refused for a reason unknown here (refusal 23)"),
             (u32::MAX, 0, 5, "place 0, column 5: refused for a reason unknown here (refusal 4294967295)"),
         ] {
             assert_eq!(Refusal { number, place, column }.to_string(), message);
