@@ -49,6 +49,6 @@ module _ (ds : List Definition) (c n k e : ℕ) (inv : walk (table ds) c ≡ aft
   unfolding aliasOf explicit
   walk-ends found of is cell = walk-here (walk-end (aliasOf (table ds)) (n - k) e (rw (← found) (told of is))) (rw (← found) cell)
 
-  pub walk-cut : {v : Cell} → n ≤ k → v ≡ explicit (table ds) e → record { end = e; links = k; cell = v } ≡ walkWithCell (table ds) c
-  unfolding walkWithin
-  walk-cut h cell = let p : n - k ≡ 0 = omega arith in walk-here (rw p) cell
+  pub walk-cut : {f : Found} {v : Cell} → n ≤ k → f ≡ foundIn ds e → v ≡ cellOf f → record { end = e; links = k; cell = v } ≡ walkWithCell (table ds) c
+  unfolding walkWithin explicit
+  walk-cut h found cell = let p : n - k ≡ 0 = omega arith in walk-here (rw p) (rw (← found) cell)

@@ -127,26 +127,20 @@ pub fn walk_from(words: &[u32], count: usize, c: u32) -> Walked
 {
     let mut at = c;
     let mut links = 0;
-    while links < count {
+    loop {
         let f = found_in(words, count, at);
-        match definitions::target_of(f) {
-            Maybe::Character(target) => {
+        if links < count {
+            if let Maybe::Character(target) = definitions::target_of(f) {
                 at = target;
                 links += 1;
-            }
-            Maybe::Nothing => {
-                return Walked {
-                    end: at,
-                    links,
-                    cell: definitions::cell_of(f),
-                };
+                continue;
             }
         }
-    }
-    Walked {
-        end: at,
-        links,
-        cell: explicit_cell(words, count, at),
+        return Walked {
+            end: at,
+            links,
+            cell: definitions::cell_of(f),
+        };
     }
 }
 

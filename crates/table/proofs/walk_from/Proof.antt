@@ -1,5 +1,6 @@
 use borrow.Author.Needs.{needs}
 use Prim.Native.Nat.{_*_, _≤_, _-_}
+use mathlib.Core.Logic.{⊎-elim}
 use mathlib.Core.Path.{_≡_}
 use lib.ListN.{length}
 use Rattle.definitions.specs.Definitions.{table, aliasOf, walkWithin, walk}
@@ -30,6 +31,4 @@ walk-from-spec =
     (λ c. (search needs, search needs, search walk-on))
     (λ c. search needs)
     (λ c κs. search needs)
-    (λ c. search walk-ends)
-    (λ c κs. search needs)
-    (λ c. search walk-cut))
+    (λ c. ⊎-elim (λ w. search walk-ends) (λ w. search walk-cut) (c .before .if1 .came)))
