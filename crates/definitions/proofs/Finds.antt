@@ -1,5 +1,5 @@
 -- What is found where definitions follow others: in either part, kept by later ones, the same where no later one is for the character.
-use Prim.Native.Nat.{ℕ, _%_}
+use Prim.Native.Nat.{ℕ}
 use mathlib.Core.Path.{_≡_, refl}
 use mathlib.Core.Bool.{Bool, true, false}
 use mathlib.Core.List.{List, [], _∷_, _++_}
@@ -9,7 +9,6 @@ use Rattle.basics.specs.declared.Maybe.the-variants as M
 use Rattle.basics.proofs.Tests.{by-cases}
 use Rattle.unicode.specs.Characters.{isBraille}
 use Rattle.definitions.specs.declared.Meaning.{Meaning}
-use Rattle.definitions.specs.declared.Meaning.the-variants.{Shown}
 use Rattle.definitions.specs.declared.Definition.{Definition}
 use Rattle.definitions.specs.declared.Found.{Found}
 use Rattle.definitions.specs.declared.Found.the-variants.{Undefined, Is}
@@ -47,11 +46,9 @@ not-first false m f e = (refl, e)
 -- what is found stays found
 pub found-kept : (ds rs : List Definition) (c : ℕ) (m : Meaning) → foundIn ds c ≡ Is m → foundIn (ds ++ rs) c ≡ Is m
 unfolding foundIn
-found-kept ds rs c m = rw (find-append ds rs c) (go (isBraille c))
-  where
-    go : (b : Bool) → pick b (Is (Shown (c % 256))) (find ds c) ≡ Is m → pick b (Is (Shown (c % 256))) (orElse (find ds c) (find rs c)) ≡ Is m
-    go true e = e
-    go false e = rw e
+found-kept ds rs c m e =
+    by-cases (isBraille c) (λ q. rw q (rw q at e))
+    (λ q. let f : find ds c ≡ Is m = rw q at e in rw (q, find-append ds rs c, f))
 
 -- the same where no later definition is for the character
 pub found-same : (ds rs : List Definition) (c : ℕ) → isDefined rs c ≡ false → foundIn (ds ++ rs) c ≡ foundIn ds c

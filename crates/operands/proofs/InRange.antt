@@ -27,28 +27,28 @@ use Rattle.operands.specs.declared.Operand.the-variants as O
 use Rattle.operands.specs.declared.DotsOperand.{DotsOperand}
 use Rattle.operands.specs.declared.DotsOperand.the-variants as D
 
--- ---- characters: a word's is a scalar value, and what it is replaced by is in no row of rule 2
+-- ---- characters: that of a word is a scalar value, and that of an operand one that it can stand for
 
--- what is so of a character, if there is one
-abbrev Of : (ℕ → Bool) → Maybe → Type 0
-Of test Nothing = Unit
-Of test (Character c) = test c ≡ true
+-- a character, if there is one, passes a test
+abbrev Passes : (ℕ → Bool) → Maybe → Type 0
+Passes test Nothing = Unit
+Passes test (Character c) = test c ≡ true
 
 abbrev pub OperandInRange : Operand → Type 0
 OperandInRange (O.Fault refusal left) = Unit
 OperandInRange (O.Value c after) = isOperand c ≡ true
 
-if-character : {A : Type 0} (P : A → Type 0) (test : ℕ → Bool) (m : Maybe) {none : A} {some : ℕ → A} → P none → ((c : ℕ) → test c ≡ true → P (some c)) → Of test m → P (ifCharacter m none some)
+if-character : {A : Type 0} (P : A → Type 0) (test : ℕ → Bool) (m : Maybe) {none : A} {some : ℕ → A} → P none → ((c : ℕ) → test c ≡ true → P (some c)) → Passes test m → P (ifCharacter m none some)
 if-character P test Nothing n s h = n
 if-character P test (Character c) n s h = s c h
 
-character-in-range : (w : List ℕ) → Of isScalar (characterOf w)
+character-in-range : (w : List ℕ) → Passes isScalar (characterOf w)
 unfolding characterOf
-character-in-range w = search (by-test (Of isScalar))
+character-in-range w = search (by-test (Passes isScalar))
 
-operand-in-range : (charset : ℕ) (w : List ℕ) → Of isOperand (operandOf charset w)
+operand-in-range : (charset : ℕ) (w : List ℕ) → Passes isOperand (operandOf charset w)
 unfolding operandOf
-operand-in-range charset w = if-character (Of isOperand) isScalar (characterOf w) tt (replaced-operand charset) (character-in-range w)
+operand-in-range charset w = if-character (Passes isOperand) isScalar (characterOf w) tt (replaced-operand charset) (character-in-range w)
 
 -- a byte has eight bits, however it is written
 number-small : (n : ℕ) → EightBits (asByte n)
@@ -62,17 +62,17 @@ unfolding byteOf
 byte-small-of charset w = search (either EightBits, if-character EightBits isScalar, number-small, set-small charset, character-in-range)
 
 -- and its character is in range too
-byte-character-in-range : (charset : ℕ) (w : List ℕ) → Of isOperand (byteCharacterOf charset w)
+byte-character-in-range : (charset : ℕ) (w : List ℕ) → Passes isOperand (byteCharacterOf charset w)
 unfolding byteCharacterOf
-byte-character-in-range charset w = either (Of isOperand) (isUnicodeEscape w) tt (go (byteOf charset w) (byte-small-of charset w))
+byte-character-in-range charset w = either (Passes isOperand) (isUnicodeEscape w) tt (go (byteOf charset w) (byte-small-of charset w))
   where
-    go : (m : Maybe) → EightBits m → Of isOperand (ifCharacter m Nothing (λ byte. Character (localCharacter charset byte)))
+    go : (m : Maybe) → EightBits m → Passes isOperand (ifCharacter m Nothing (λ byte. Character (localCharacter charset byte)))
     go Nothing h = tt
     go (Character byte) h = local-operand charset byte h
 
 pub value-in-range : (charset : ℕ) (byte : Bool) (line : List ℕ) (at : ℕ) → OperandInRange (characterAt charset byte line at)
 unfolding characterAt
-value-in-range charset byte line at = search (either OperandInRange, if-character OperandInRange isOperand, either (Of isOperand), byte-character-in-range, operand-in-range)
+value-in-range charset byte line at = search (either OperandInRange, if-character OperandInRange isOperand, either (Passes isOperand), byte-character-in-range, operand-in-range)
 
 -- ---- dots: each answer is a cell
 

@@ -35,7 +35,7 @@ pub enum Checked {
     FaultAt(usize),
 }
 
-// The end of an alias walk, how many links it has, and the explicit cell of its end.
+// The end of an alias walk, how many links it has, and the cell that is found at its end.
 pub struct Walked {
     pub end: u32,
     pub links: usize,

@@ -454,6 +454,14 @@ fn private_rows(small: &[u32]) {
     }
 }
 
+/// Every character of a table of aliases into the braille row in turn.
+fn braille_rows() {
+    heading("page of aliases into the braille row");
+    let alias = |k| format!("alias \\u{:04X} \\u{:04X}\n", definition_character(k), 0x2800 + k);
+    let page: Vec<u32> = (0..32).map(definition_character).cycle().take(100_000).collect();
+    page_row("100,000 characters, 32 definitions", &table(&(0..32).map(alias).collect::<String>()), &page);
+}
+
 fn measure() {
     let chain_text = backward_chain_text(1000);
     let forward_chain_text: String = chain_text.lines().rev().map(|line| format!("{line}\n")).collect();
@@ -467,6 +475,7 @@ fn measure() {
     windows_rows(sizes);
     falling_rows(sizes);
     private_rows(&small);
+    braille_rows();
     typed_rows(sizes);
     attribute_rows();
     byte_rows();
