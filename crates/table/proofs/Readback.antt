@@ -13,8 +13,7 @@ use Rattle.basics.specs.Choice.{pick}
 use Rattle.basics.proofs.Tests.{both, by-test}
 use Rattle.basics.proofs.Loops.{two-more}
 use Rattle.basics.specs.Refusals.{Reply, answered}
-use Rattle.unicode.specs.Characters.{isBraille, isOperand, isCharset}
-use Rattle.unicode.proofs.Charsets.{operand-scalar}
+use Rattle.unicode.specs.Characters.{isScalar, isBraille, isOperand, isCharset}
 use Rattle.definitions.specs.declared.Meaning.{Meaning}
 use Rattle.definitions.specs.declared.Meaning.the-variants.{Typed, Shown, Alias}
 use Rattle.definitions.specs.declared.Definition.{Definition}
@@ -44,7 +43,7 @@ AllInRange (d ∷ ds) = InRange d × AllInRange ds
 
 -- it leaves the kind of a second word alone
 pub operand-small : (c : ℕ) → isOperand c ≡ true → c < kindUnit
-operand-small c h = go (ltb c 0xD800) refl (operand-scalar c h)
+operand-small c h = go (ltb c 0xD800) refl (both (isScalar c) _ h .0)
   where
     go : (b : Bool) → ltb c 0xD800 ≡ b → (b || (leb 0xE000 c && ltb c 0x110000)) ≡ true → c < kindUnit
     go true p e = omega (arith, ltb-true c 0xD800 p)

@@ -233,7 +233,6 @@ fn is_zero_pair(c: u32, w: u32) -> bool
     false
 }
 
-// Whether `c` may have a definition.
 fn is_definable(c: u32) -> bool
     ensures { λ r. ⌜ r ≡ isDefinable c ⌝ }
 {

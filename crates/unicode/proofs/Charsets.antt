@@ -192,6 +192,3 @@ pub replaced-operand : (charset c : ℕ) → isScalar c ≡ true → isOperand (
 unfolding localOf
 replaced-operand charset c scalar =
     by-test (λ x. isOperand x ≡ true) (isPrivate c) (λ e. local-operand charset (c % 256) (omega arith)) (λ e. rw (scalar, e))
-
-pub operand-scalar : (c : ℕ) → isOperand c ≡ true → isScalar c ≡ true
-operand-scalar c h = both (isScalar c) _ h .0
