@@ -13,7 +13,7 @@ use Rattle.basics.specs.declared.Refusal.the-variants.{MissingOperand, Trailing
 use Rattle.lines.specs.Lines.{withoutCR}
 use Rattle.lines.specs.Words.{wordAt, bytesOf, isMissing, sameBytes, isOver}
 use Rattle.lines.specs.declared.Word.{Word}
-use Rattle.operands.specs.Characters.{backslash}
+use Rattle.characters.specs.Characters.{backslash}
 use Rattle.operands.specs.Operands.{wordOperand, dotsOperandAt, ifValue, ifDotsValue}
 use Rattle.operands.specs.declared.Operand.{Operand}
 use Rattle.operands.specs.declared.Operand.the-variants as O

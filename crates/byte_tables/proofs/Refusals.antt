@@ -12,23 +12,23 @@ use Rattle.basics.specs.declared.Maybe.{Maybe}
 use Rattle.basics.specs.declared.Maybe.the-variants.{Nothing, Character}
 use Rattle.basics.proofs.Tests.{either, by-cases}
 use Rattle.unicode.specs.Characters.{isCharset}
-use Rattle.unicode.specs.Utf8.{utf8}
-use Rattle.unicode.specs.declared.Validity.{Validity}
-use Rattle.unicode.specs.declared.Validity.the-variants.{Good, BadAt}
+use Rattle.utf8.specs.Utf8.{utf8}
+use Rattle.utf8.specs.declared.Validity.{Validity}
+use Rattle.utf8.specs.declared.Validity.the-variants.{Good, BadAt}
 use Rattle.lines.specs.Words.{wordAt, bytesOf, isMissing, sameBytes, isOver}
 use Rattle.lines.specs.Texts.{lineLimit, validOpening, openingOf, ifDirective, Step, next, stop, rejected, runText}
 use Rattle.lines.specs.declared.Word.{Word}
 use Rattle.lines.specs.declared.Opening.{Opening}
 use Rattle.lines.specs.declared.Opening.the-variants as G
 use Rattle.lines.proofs.Texts.{StopsBy, RefusedBy, run-refused}
-use Rattle.operands.specs.Dots.{dotsAt}
+use Rattle.dots.specs.Dots.{dotsAt}
 use Rattle.operands.specs.Operands.{wordOperand, dotsFault, dotsOperandAt, ifValue, ifDotsValue}
 use Rattle.operands.specs.declared.Operand.{Operand}
 use Rattle.operands.specs.declared.Operand.the-variants as O
 use Rattle.operands.specs.declared.DotsOperand.{DotsOperand}
 use Rattle.operands.specs.declared.DotsOperand.the-variants as E
-use Rattle.operands.specs.declared.CellRead.{CellRead}
-use Rattle.operands.specs.declared.CellRead.the-variants as C
+use Rattle.dots.specs.declared.CellRead.{CellRead}
+use Rattle.dots.specs.declared.CellRead.the-variants as C
 use Rattle.definitions.specs.declared.Cell.{Cell}
 use Rattle.definitions.specs.declared.Cell.the-variants.{Absent, Dots}
 use Rattle.attributes.specs.Cells.{place}

@@ -14,7 +14,7 @@ use Rattle.basics.specs.declared.Maybe.the-variants.{Nothing}
 use Rattle.lines.specs.declared.Word.{Word}
 use Rattle.lines.specs.Words.{wordAt, bytesOf, isMissing, sameBytes, isOver}
 use Rattle.lines.specs.Texts.{openingOf, ifDirective}
-use Rattle.operands.specs.Characters.{backslash, isEscape, byteOf}
+use Rattle.characters.specs.Characters.{backslash, isEscape, byteOf}
 use Rattle.operands.specs.Operands.{wordOperand, dotsOperandAt, ifValue, ifDotsValue}
 use Rattle.operands.specs.declared.Operand.{Operand}
 use Rattle.operands.specs.declared.Operand.the-variants as O

@@ -80,7 +80,7 @@ fn form_byte(charset: u32, w: &[u8]) -> Maybe
     ensures { λ r. ⌜ EightBits r ⌝ }
 {
     if is_byte_form(w) {
-        return operands::byte_of(charset, w);
+        return characters::byte_of(charset, w);
     }
     Maybe::Nothing
 }

@@ -20,7 +20,7 @@ use Rattle.lines.proofs.Texts.{Reached, lines-read, line-refused, line-read}
 use Rattle.blocks.specs.Internal.{stack, noBlocks, startsOf}
 use Rattle.blocks.specs.declared.Blocks.{Blocks}
 use Rattle.blocks.proofs.Stacks.{stack-none}
-use Rattle.table.specs.Words.{pairWords, tableWords, charsetOf, definitions}
+use Rattle.pairs.specs.Words.{pairWords, tableWords, charsetOf, definitions}
 use Rattle.table.specs.Internal.{Written}
 use Rattle.table.proofs.Written.{empty-charset, empty-beyond, same-charset, same-beyond, written-length}
 use Rattle.compiler.specs.Compile.{SoFar, begun, step, closing, compiled, compileReply, compileColumn, compileWords}

@@ -22,7 +22,7 @@ use Rattle.definitions.specs.declared.Verdict.{Verdict}
 use Rattle.definitions.specs.declared.Verdict.the-variants as Judged
 use Rattle.definitions.specs.Effects.{definitionLimit, verdictOf}
 use Rattle.definitions.proofs.Admission.{admissible}
-use Rattle.table.specs.Words.{kindUnit, wordOf, charsetOf, definitions}
+use Rattle.pairs.specs.Words.{kindUnit, wordOf, charsetOf, definitions}
 use Rattle.table.proofs.Readback.{InRange}
 use Rattle.table.proofs.Written.{written-length, stored, store-fits, stored-more, stored-written, stored-beyond}
 use Rattle.reader.specs.Reader.{readLine}

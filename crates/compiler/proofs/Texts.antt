@@ -21,7 +21,7 @@ use Rattle.blocks.specs.declared.OpenBlock.{OpenBlock}
 use Rattle.blocks.proofs.Stacks.{after-alike}
 use Rattle.definitions.specs.declared.Definition.{Definition}
 use Rattle.definitions.proofs.Admission.{Admits}
-use Rattle.table.specs.Words.{tableWords, imageOf}
+use Rattle.pairs.specs.Words.{tableWords, imageOf}
 use Rattle.table.proofs.Readback.{AllInRange}
 use Rattle.compiler.specs.Compile.{lineEffect, SoFar, begun, withEffect, step, closedBy, closing, compiled, andAfter, effectsWithin, effects, compiledCount, compileReply, compileColumn, compileWords}
 use Rattle.reader.specs.Reader.{readLine}

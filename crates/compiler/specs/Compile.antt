@@ -16,7 +16,7 @@ use Rattle.definitions.specs.declared.Definition.{Definition}
 use Rattle.definitions.specs.declared.Verdict.{Verdict}
 use Rattle.definitions.specs.declared.Verdict.the-variants as Judged
 use Rattle.definitions.specs.Effects.{verdictOf}
-use Rattle.table.specs.Words.{tableWords, imageOf}
+use Rattle.pairs.specs.Words.{tableWords, imageOf}
 use Rattle.reader.specs.Reader.{readLine}
 use Rattle.reader.specs.declared.Reading.{Reading}
 use Rattle.reader.specs.declared.Reading.the-variants.{Fault, NoEffect, Define, Block}

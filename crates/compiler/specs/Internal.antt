@@ -11,7 +11,7 @@ use Rattle.blocks.specs.Blocks.{depthLimit}
 use Rattle.blocks.specs.Internal.{noBlocks, blocksOf, startsOf}
 use Rattle.blocks.specs.declared.Blocks.{Blocks}
 use Rattle.definitions.specs.declared.Definition.{Definition}
-use Rattle.table.specs.Words.{pairWords, tableWords, charsetOf, definitions}
+use Rattle.pairs.specs.Words.{pairWords, tableWords, charsetOf, definitions}
 use Rattle.table.specs.Internal.{Written}
 use Rattle.compiler.specs.Compile.{SoFar, soFar, step, compiledCount, outcomeWords}
 use Rattle.compiler.specs.declared.State.{State}

@@ -17,7 +17,7 @@ ghost use Rattle.lines.specs.Lines.{withoutCR};
 ghost use Rattle.lines.specs.Texts.{textLimit, accepted, compiledReply, compiledColumn};
 ghost use Rattle.blocks.specs.Blocks.{depthLimit};
 ghost use Rattle.blocks.specs.Internal.{blocksOf};
-ghost use Rattle.table.specs.Words.{charsetOf, definitions};
+ghost use Rattle.pairs.specs.Words.{charsetOf, definitions};
 ghost use Rattle.table.specs.Internal.{Written};
 ghost use Rattle.compiler.specs.Compile.{effectOf, lineEffect, closing, compiled, compileReply, compileColumn, compileWords};
 ghost use Rattle.compiler.specs.Internal.{standing, firstState, Ready, goneOn, Leaves, Settled};
@@ -44,7 +44,7 @@ fn effect_of(words: &[u32], count: usize, reading: Reading) -> Reading
         Reading::Fault(refusal, left) => Reading::Fault(refusal, left),
         Reading::NoEffect => Reading::NoEffect,
         Reading::Block(line) => Reading::Block(line),
-        Reading::Define(d, left) => match table::judge(words, count, d) {
+        Reading::Define(d, left) => match pairs::judge(words, count, d) {
             Verdict::Admitted => Reading::Define(d, left),
             Verdict::Refused(refusal) => Reading::Fault(refusal, left),
         },

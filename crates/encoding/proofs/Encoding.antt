@@ -6,10 +6,10 @@ use native.Mathlib.Nat.{add-zero}
 use native.Mathlib.Omega.{arith}
 use lib.ListN.{length, take, drop, length-append, take-append-drop}
 use lib.Seq.{length-take-le, take-at, take-length}
-use Rattle.unicode.specs.Utf8.{utf8From, utf8}
-use Rattle.unicode.specs.declared.Utf8State.the-variants.{Between}
-use Rattle.unicode.specs.declared.Validity.{Validity}
-use Rattle.unicode.specs.declared.Validity.the-variants.{Good, BadAt}
+use Rattle.utf8.specs.Utf8.{utf8From, utf8}
+use Rattle.utf8.specs.declared.Utf8State.the-variants.{Between}
+use Rattle.utf8.specs.declared.Validity.{Validity}
+use Rattle.utf8.specs.declared.Validity.the-variants.{Good, BadAt}
 use Rattle.encoding.specs.Encoding.{encoded, encodings, Scalars, none, one-more, IsUtf8, BreaksAt, Says, IsForm, Exactly, LineAnswered}
 use Rattle.encoding.proofs.Forms.{form-length, encoded-form, form-is}
 use Rattle.encoding.proofs.Reading.{form-read, Start, over, character, broken, start}

@@ -12,7 +12,7 @@ use Rattle.basics.specs.declared.Maybe.{Maybe}
 use Rattle.basics.specs.declared.Maybe.the-variants.{Nothing, Character}
 use Rattle.basics.proofs.Tests.{by-cases, by-test}
 use Rattle.unicode.specs.Characters.{isScalar}
-use Rattle.operands.specs.Characters.{noNumber, backslash, plainOf, wordNumber, characterOf}
+use Rattle.characters.specs.Characters.{noNumber, backslash, plainOf, wordNumber, characterOf}
 use Rattle.encoding.specs.Encoding.{encoded, encodings, Scalars, none, one-more, IsUtf8, IsForm, SaysPlain, Exactly, Plain}
 use Rattle.encoding.proofs.Forms.{Further, Form, one, two, three, four, form-length, encoded-form, form-of, form-is}
 use Rattle.encoding.proofs.Encoding.{exactly}

@@ -7,10 +7,10 @@ use native.Mathlib.Omega.{arith}
 use lib.ListN.{length}
 use lib.Dec.{leb}
 use borrow.Author.Tests.{lt-ltb, le-ltb, le-leb, lt-leb, ne-eqb}
-use Rattle.unicode.specs.Utf8.{afterFirst, afterFurther, utf8From}
-use Rattle.unicode.specs.declared.Utf8State.{Utf8State}
-use Rattle.unicode.specs.declared.Utf8State.the-variants.{Between, Inside, Broken}
-use Rattle.unicode.specs.declared.Validity.the-variants.{BadAt}
+use Rattle.utf8.specs.Utf8.{afterFirst, afterFurther, utf8From}
+use Rattle.utf8.specs.declared.Utf8State.{Utf8State}
+use Rattle.utf8.specs.declared.Utf8State.the-variants.{Between, Inside, Broken}
+use Rattle.utf8.specs.declared.Validity.the-variants.{BadAt}
 use Rattle.encoding.proofs.Forms.{by-bound, if-below, if-same, SecondOfThree, SecondOfFour, Form, one, two, three, four}
 
 -- ---- the first byte

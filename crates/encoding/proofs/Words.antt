@@ -11,10 +11,10 @@ use lib.Seq.{getD-drop, drop-drop}
 use lib.Dec.{leb, eqb}
 use borrow.Author.Tests.{leb-true, eqb-true, lt-leb}
 use Rattle.basics.proofs.Tests.{by-cases, either}
-use Rattle.unicode.specs.Utf8.{afterFirst, afterFurther, afterByte, utf8From}
-use Rattle.unicode.specs.declared.Utf8State.{Utf8State}
-use Rattle.unicode.specs.declared.Utf8State.the-variants.{Between, Inside, Broken}
-use Rattle.unicode.specs.declared.Validity.the-variants.{Good}
+use Rattle.utf8.specs.Utf8.{afterFirst, afterFurther, afterByte, utf8From}
+use Rattle.utf8.specs.declared.Utf8State.{Utf8State}
+use Rattle.utf8.specs.declared.Utf8State.the-variants.{Between, Inside, Broken}
+use Rattle.utf8.specs.declared.Validity.the-variants.{Good}
 use Rattle.lines.specs.Words.{isBlank, firstFrom, firstAt, wordAt, bytesOf}
 use Rattle.encoding.specs.Encoding.{IsUtf8, isBorder, GoodWord}
 use Rattle.encoding.proofs.Reading.{after-alone, first-byte, stays-broken, further-bad}

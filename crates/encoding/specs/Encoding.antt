@@ -10,11 +10,11 @@ use Rattle.basics.specs.Choice.{pick}
 use Rattle.basics.specs.declared.Maybe.{Maybe}
 use Rattle.basics.specs.declared.Maybe.the-variants.{Nothing, Character}
 use Rattle.unicode.specs.Characters.{isScalar}
-use Rattle.unicode.specs.Utf8.{utf8}
-use Rattle.unicode.specs.declared.Validity.{Validity}
-use Rattle.unicode.specs.declared.Validity.the-variants.{Good, BadAt}
+use Rattle.utf8.specs.Utf8.{utf8}
+use Rattle.utf8.specs.declared.Validity.{Validity}
+use Rattle.utf8.specs.declared.Validity.the-variants.{Good, BadAt}
 use Rattle.lines.specs.Words.{isBlank, wordAt, bytesOf}
-use Rattle.operands.specs.Characters.{backslash, characterOf}
+use Rattle.characters.specs.Characters.{backslash, characterOf}
 
 -- ---- lines
 

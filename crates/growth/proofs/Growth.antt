@@ -12,10 +12,10 @@ use Rattle.definitions.specs.declared.Definition.{Definition}
 use Rattle.definitions.specs.Definitions.{table}
 use Rattle.definitions.specs.Effects.{isDefined}
 use Rattle.definitions.proofs.Admission.{Admits}
-use Rattle.table.specs.Words.{tableWords, imageOf, charsetOf}
+use Rattle.pairs.specs.Words.{tableWords, imageOf, charsetOf}
 use Rattle.table.specs.Check.{lentTable}
 use Rattle.table.proofs.Readback.{image-charset, image-lent}
-use Rattle.lookup.specs.Rules.{lookup}
+use Rattle.rules.specs.Rules.{lookup}
 use Rattle.lookup.specs.Calls.{lookupReply}
 use Rattle.typing.specs.Typing.{nothing, entriesOf, typingReply, typedBy}
 use Rattle.typing.proofs.TypedCells.{stays-typed}

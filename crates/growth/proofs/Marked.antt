@@ -24,15 +24,15 @@ use Rattle.lines.specs.Lines.{linesOf, withoutCR}
 use Rattle.lines.specs.Texts.{openingOf, runLines, runText}
 use Rattle.lines.specs.Words.{isBlank, firstFrom, firstAt, wordAt, sameBytes, isOver}
 use Rattle.lookup.specs.Calls.{lookupReply, firstNoScalar, pagePlan}
-use Rattle.lookup.specs.Rules.{candidates, choose, rulesFrom3, lookup}
-use Rattle.operands.specs.Characters.{digitOf, withDigit, digitsFrom, plainOf, shortOf, radixOf, wordNumber, characterOf, operandOf, byteOf, byteCharacterOf}
-use Rattle.operands.specs.Dots.{raiseBy, raise, raiseInside, endsAt, digitsAt, insideAt, cellAt, dotsAt}
+use Rattle.rules.specs.Rules.{candidates, choose, rulesFrom3, lookup}
+use Rattle.characters.specs.Characters.{digitOf, withDigit, digitsFrom, plainOf, shortOf, radixOf, wordNumber, characterOf, operandOf, byteOf, byteCharacterOf}
+use Rattle.dots.specs.Dots.{raiseBy, raise, raiseInside, endsAt, digitsAt, insideAt, cellAt, dotsAt}
 use Rattle.operands.specs.Operands.{characterAt, dotsOperandAt}
 use Rattle.table.specs.Check.{zeroFrom, checkFrom, checkOf, lentTable}
-use Rattle.table.specs.Words.{wordsOf, isSoundWord, meaningOf, definitions}
+use Rattle.pairs.specs.Words.{wordsOf, isSoundWord, meaningOf, definitions}
 use Rattle.typing.specs.Typing.{filledFrom}
 use Rattle.unicode.specs.Characters.{isCharset, characterBy, byteBy, localOf, standsFor}
-use Rattle.unicode.specs.Utf8.{afterFirst, afterFurther, utf8From}
+use Rattle.utf8.specs.Utf8.{afterFirst, afterFurther, utf8From}
 
 -- all tables, since they are computed by the same definitions
 computed : (everyOne marked ≡ true) × (everyOne workedBlocks ≡ true) × (everyOne workedColumns ≡ true) × (everyOne workedEditions ≡ true) × (everyOne workedCharsets ≡ true) × (everyOne workedRows ≡ true)

@@ -24,9 +24,9 @@ use Rattle.definitions.specs.Effects.{isDefined}
 use Rattle.definitions.proofs.Finds.{found-kept, found-same}
 use Rattle.definitions.proofs.Walks.{Walks, walk-unique, walk-kept}
 use Rattle.definitions.proofs.Admission.{Admits, admits-first, walk-walks}
-use Rattle.lookup.specs.declared.Answer.{Answer}
-use Rattle.lookup.proofs.Choices.{choose-chosen}
-use Rattle.lookup.specs.Rules.{explicitOf, endCell, candidates, choose, rulesFrom3, lookup}
+use Rattle.rules.specs.declared.Answer.{Answer}
+use Rattle.rules.proofs.Choices.{choose-chosen}
+use Rattle.rules.specs.Rules.{explicitOf, endCell, candidates, choose, rulesFrom3, lookup}
 
 -- the second answer's rule is the first's or smaller; where it is the same, so is the cell
 pub record NotSpoiled (before after : Answer) : Type 0 where

@@ -12,7 +12,7 @@ use Rattle.lines.specs.Texts.{Outcome, accepted, rejected}
 use Rattle.definitions.specs.declared.Definition.{Definition}
 use Rattle.definitions.specs.Definitions.{table, walk}
 use Rattle.definitions.specs.Effects.{isDefined}
-use Rattle.lookup.specs.declared.Answer.{Answer}
+use Rattle.rules.specs.declared.Answer.{Answer}
 use Rattle.lookup.specs.Calls.{lookupReply}
 use Rattle.typing.specs.Typing.{typingReply, typedBy}
 use Rattle.compiler.specs.Compile.{compiled, effects, compileReply, compileWords}

@@ -9,8 +9,8 @@ use Rattle.basics.specs.Ascii.{ascii}
 use Rattle.basics.specs.Choice.{ifCharacter, isCharacter}
 use Rattle.basics.specs.Refusals.{Reply, answered, refused}
 use Rattle.lines.specs.Texts.{outcomeColumn}
-use Rattle.table.specs.Words.{tableWords}
-use Rattle.lookup.specs.declared.Answer.{Answer}
+use Rattle.pairs.specs.Words.{tableWords}
+use Rattle.rules.specs.declared.Answer.{Answer}
 use Rattle.lookup.specs.Calls.{lookupReply}
 use Rattle.typing.specs.Typing.{typedBy}
 use Rattle.compiler.specs.Compile.{compileReply, compileColumn, compileWords}

@@ -1,60 +1,24 @@
-// The calls exported for C and Rust. Each answers one number; specs/Codes.antt says how.
-use attributes::Place;
+// The calls exported for C and Rust. Each answers one number; codes/specs/Codes.antt says how.
 use basics::Filling;
-use basics::Maybe;
 use basics::Refusal;
+use codes::CELL_COUNT;
+use codes::answer_code;
+use codes::character_code;
+use codes::compile_code;
+use codes::filling_code;
+use codes::put_bytes;
+use codes::put_cells;
+use codes::put_entries;
+use codes::refusal_code;
 use lines::Compiled;
-use lookup::Answer;
 use lookup::Looked;
-use typing::Entry;
 use windows::Window;
 ghost use mathlib.Core.Path.{_≡_};
-ghost use mathlib.Core.List.{map};
-ghost use Prim.Native.Nat.{_≤_, min};
 ghost use lib.ListN.{length};
-ghost use Rattle.basics.specs.Refusals.{numberOf, fillingReply};
-ghost use Rattle.definitions.specs.Effects.{definitionLimit};
-ghost use Rattle.lines.specs.Texts.{compiledReply, compiledColumn};
 ghost use Rattle.editions.specs.Editions.{editionReply, editionColumn, editionWords};
-ghost use Rattle.lookup.specs.Calls.{lookupReply, pagePlan, over, Pages};
+ghost use Rattle.lookup.specs.Calls.{lookupReply, pagePlan, Pages};
 ghost use Rattle.windows.specs.Windows.{PagesWindows};
-ghost use Rattle.heathdapple.specs.Codes.{refusalCode, compileCode, answerCode, lookupCode, fillingCode, characterCode, typedCode, attributeCode, cellCount, entriesReply, entryCode, entriesAfter, cellsReply, cellsColumn, cellsOf, cellsAfter, byteCellsReply, byteCellsColumn, byteCellsAfter};
-ghost use Rattle.heathdapple.specs.Internal.{EntriesFit};
-
-// A number, or the most that may be given for it.
-fn at_most(n: usize, most: u64) -> u64
-    ensures { λ r. ⌜ r ≡ min n most ⌝ }
-{
-    let given = n as u64;
-    if given <= most {
-        return given;
-    }
-    most
-}
-
-// A refusal as one number.
-fn refusal_code(refusal: Refusal, column: usize, place: usize) -> u64
-    ensures { λ r. ⌜ r ≡ refusalCode (numberOf refusal) column place ⌝ }
-{
-    let number = basics::number_of(refusal) as u64;
-    let middle = at_most(column, 0xFFFF);
-    let low = at_most(place, 0xFFFFFFFF);
-    number * 0x1000000000000 + middle * 0x100000000 + low
-}
-
-// What a compile call answers, as one number.
-fn compile_code(answer: Compiled) -> u64
-    ensures { λ r. ⌜ r ≡ compileCode (compiledColumn answer) (compiledReply answer) ⌝ }
-{
-    match answer {
-        Compiled::Accepted(count) => count as u64,
-        Compiled::Refused {
-            refusal,
-            line,
-            column,
-        } => refusal_code(refusal, column, line),
-    }
-}
+ghost use Rattle.codes.specs.Codes.{compileCode, lookupCode, fillingCode, typedCode, attributeCode, entriesReply, entriesAfter, cellsReply, cellsColumn, cellsAfter, byteCellsReply, byteCellsColumn, byteCellsAfter};
 
 // Compiles a text table of edition 2 into 2,050 words of `words`, or reads a byte table, edition 1, and leaves them, in a
 // local character set: the count of definitions or of byte lines, or the refusal with its line and column.
@@ -68,14 +32,6 @@ pub extern "C" fn heathdapple_compile(edition: u32, set: u32, text: &[u8], words
     compile_code(answer)
 }
 
-// What lookup shows, as one number.
-fn answer_code(a: Answer) -> u64
-    requires { ⌜ a .links ≤ definitionLimit ⌝ }
-    ensures { λ r. ⌜ r ≡ answerCode a ⌝ }
-{
-    a.cell as u64 + 0x100 * (a.rule as u64) + 0x10000 * (a.links as u64)
-}
-
 // Looks a character up: cell + 2^8 × rule + 2^16 × links, or the refusal with its place.
 #[no_mangle]
 pub extern "C" fn heathdapple_look_up(words: &[u32], character: u32) -> u64
@@ -84,16 +40,6 @@ pub extern "C" fn heathdapple_look_up(words: &[u32], character: u32) -> u64
     match lookup::look_up(words, character) {
         Looked::Answered(a) => answer_code(a),
         Looked::Refused(refusal, place) => refusal_code(refusal, 0, place),
-    }
-}
-
-// What a call that fills answers, as one number.
-fn filling_code(answer: Filling) -> u64
-    ensures { λ r. ⌜ r ≡ fillingCode (fillingReply answer) ⌝ }
-{
-    match answer {
-        Filling::Filled => 0,
-        Filling::Refused(refusal, place) => refusal_code(refusal, 0, place),
     }
 }
 
@@ -125,16 +71,6 @@ pub extern "C" fn heathdapple_windows(
     filling_code(done)
 }
 
-// What an entry types, as one number.
-fn character_code(typed: Maybe) -> u64
-    ensures { λ r. ⌜ r ≡ characterCode typed ⌝ }
-{
-    match typed {
-        Maybe::Nothing => 0,
-        Maybe::Character(c) => c as u64 + 1,
-    }
-}
-
 // The character that a cell types: 0 for nothing, else the character + 1, or the refusal with its place.
 #[no_mangle]
 pub extern "C" fn heathdapple_typed(words: &[u32], cell: u8) -> u64
@@ -151,23 +87,6 @@ pub extern "C" fn heathdapple_typed(words: &[u32], cell: u8) -> u64
             character_code(typed)
         }
         Filling::Refused(refusal, place) => refusal_code(refusal, 0, place),
-    }
-}
-
-// As many cells as eight dots have, and as many attribute bytes.
-const CELL_COUNT: usize = 256;
-
-// Writes what each of the 256 entries types.
-fn put_entries(entries: [Entry; 256], codes: &mut [u32])
-    requires { ⌜ (cellCount ≤ length (now codes)) × EntriesFit entries ⌝ }
-    ensures { λ r. ⌜ now (codes .exit) ≡ over (map entryCode entries) (now (codes .entry)) ⌝ }
-{
-    let mut i = 0;
-    while i < CELL_COUNT {
-        let e = entries[i];
-        let typed = e.types;
-        codes[i] = character_code(typed) as u32;
-        i += 1;
     }
 }
 
@@ -210,18 +129,6 @@ pub extern "C" fn heathdapple_attribute_cell(text: &[u8], byte: u8) -> u64
     }
 }
 
-// Writes the cell of each of the 256 attribute bytes.
-fn put_cells(places: [Place; 8], cells: &mut [u8])
-    requires { ⌜ cellCount ≤ length (now cells) ⌝ }
-    ensures { λ r. ⌜ now (cells .exit) ≡ over (cellsOf places) (now (cells .entry)) ⌝ }
-{
-    let mut i = 0;
-    while i < CELL_COUNT {
-        cells[i] = attributes::attribute_cell(places, i as u8);
-        i += 1;
-    }
-}
-
 // The cells of all attribute bytes by an attributes text, at the front of `cells`: the count of `dot` lines, or the refusal with its line
 // and column.
 #[no_mangle]
@@ -245,18 +152,6 @@ pub extern "C" fn heathdapple_attribute_cells(text: &[u8], cells: &mut [u8]) -> 
             line,
             column,
         } => refusal_code(refusal, column, line),
-    }
-}
-
-// Writes the 256 cells of a byte table.
-fn put_bytes(all: [u8; 256], cells: &mut [u8])
-    requires { ⌜ cellCount ≤ length (now cells) ⌝ }
-    ensures { λ r. ⌜ now (cells .exit) ≡ over all (now (cells .entry)) ⌝ }
-{
-    let mut i = 0;
-    while i < CELL_COUNT {
-        cells[i] = all[i];
-        i += 1;
     }
 }
 

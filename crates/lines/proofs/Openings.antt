@@ -7,10 +7,10 @@ use lib.ListN.{length, getD}
 use lib.Dec.{eqb}
 use borrow.Author.Tests.{le-ltb}
 use Rattle.basics.specs.declared.Refusal.{Refusal}
-use Rattle.unicode.specs.Utf8.{utf8}
-use Rattle.unicode.specs.Internal.{BadWithin}
-use Rattle.unicode.specs.declared.Validity.{Validity}
-use Rattle.unicode.specs.declared.Validity.the-variants.{BadAt}
+use Rattle.utf8.specs.Utf8.{utf8}
+use Rattle.utf8.specs.Internal.{BadWithin}
+use Rattle.utf8.specs.declared.Validity.{Validity}
+use Rattle.utf8.specs.declared.Validity.the-variants.{BadAt}
 use Rattle.lines.specs.Words.{wordAt, isMissing, isOver}
 use Rattle.lines.specs.Texts.{lineLimit, validOpening, openingOf, ifDirective}
 use Rattle.lines.specs.declared.Word.{Word}

@@ -8,9 +8,9 @@ use Rattle.basics.specs.Choice.{pick}
 use Rattle.basics.specs.Refusals.{numberOf, Reply, answered, refused}
 use Rattle.basics.specs.declared.Refusal.{Refusal}
 use Rattle.basics.specs.declared.Refusal.the-variants.{TextTooLong, LineTooLong, NotUtf8}
-use Rattle.unicode.specs.Utf8.{utf8}
-use Rattle.unicode.specs.declared.Validity.{Validity}
-use Rattle.unicode.specs.declared.Validity.the-variants.{Good, BadAt}
+use Rattle.utf8.specs.Utf8.{utf8}
+use Rattle.utf8.specs.declared.Validity.{Validity}
+use Rattle.utf8.specs.declared.Validity.the-variants.{Good, BadAt}
 use Rattle.lines.specs.Lines.{linesOf, withoutCR}
 use Rattle.lines.specs.Words.{isOver}
 use Rattle.lines.specs.declared.Opening.{Opening}

@@ -1,6 +1,6 @@
 // The lines of a text, the words of a line, the column of a fault, and what every compile call answers.
 use basics::Refusal;
-use unicode::Validity;
+use utf8::Validity;
 ghost use mathlib.Core.Path.{_≡_};
 ghost use Prim.Native.Nat.{_≤_};
 ghost use lib.ListN.{length};
@@ -159,7 +159,7 @@ pub fn open_line(line: &[u8]) -> Opening
     if LINE_LIMIT < n {
         return Opening::Fault(Refusal::LineTooLong, n - LINE_LIMIT);
     }
-    match unicode::check_utf8(line) {
+    match utf8::check_utf8(line) {
         Validity::BadAt(p) => Opening::Fault(Refusal::NotUtf8, n - p),
         Validity::Good => {
             if is_over(line, 0) {

@@ -1,4 +1,3 @@
-pub mod Choices
 pub mod WholeWalks
 pub mod Replies
 pub mod Buffers

@@ -13,16 +13,16 @@ use Rattle.unicode.specs.Characters.{isScalar}
 use Rattle.definitions.specs.Definitions.{table}
 use Rattle.table.specs.declared.Checked.{Checked}
 use Rattle.table.specs.declared.Checked.the-variants.{Sound, FaultAt}
-use Rattle.table.specs.Words.{tableWords, charsetOf, definitions, tableOf}
+use Rattle.pairs.specs.Words.{tableWords, charsetOf, definitions, tableOf}
 use Rattle.table.specs.Check.{checkOf, lentTable}
 use Rattle.table.proofs.Lent.{lent-fault, lent-sound}
-use Rattle.lookup.specs.declared.Answer.{Answer}
-use Rattle.lookup.specs.declared.LastCells.{LastCells}
+use Rattle.rules.specs.declared.Answer.{Answer}
+use Rattle.rules.specs.declared.LastCells.{LastCells}
 use Rattle.lookup.specs.declared.NoScalar.{NoScalar}
 use Rattle.lookup.specs.declared.NoScalar.the-variants.{Nowhere, At}
-use Rattle.lookup.specs.Rules.{candidates, rulesFrom3, lookup}
+use Rattle.rules.specs.Rules.{candidates, rulesFrom3, lookup}
 use Rattle.lookup.specs.Calls.{lookupReply, firstNoScalar, unlessAt, pagePlan, over, Pages}
-use Rattle.lookup.specs.Internal.{lastCells, lookupBy}
+use Rattle.rules.specs.Internal.{lastCells, lookupBy}
 
 -- ---- the lookup call
 

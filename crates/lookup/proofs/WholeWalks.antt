@@ -12,15 +12,15 @@ use Rattle.definitions.specs.declared.Definition.{Definition}
 use Rattle.definitions.specs.Definitions.{table}
 use Rattle.definitions.specs.Effects.{definitionLimit}
 use Rattle.definitions.proofs.Admission.{Admits, admits-limit, aliases-length, whole-walk}
-use Rattle.table.specs.Words.{charsetOf}
+use Rattle.pairs.specs.Words.{charsetOf}
 use Rattle.table.specs.Check.{lentTable}
 use Rattle.table.proofs.Readback.{lent-admits}
-use Rattle.lookup.specs.declared.Answer.{Answer}
+use Rattle.rules.specs.declared.Answer.{Answer}
 use Rattle.lookup.specs.declared.Looked.{Looked}
 use Rattle.lookup.specs.declared.Looked.the-variants.{Answered}
-use Rattle.lookup.specs.Rules.{lookup}
+use Rattle.rules.specs.Rules.{lookup}
 use Rattle.lookup.specs.Calls.{lookupReply, lookedReply, Followed, LentLinks}
-use Rattle.lookup.proofs.Choices.{rules-chosen}
+use Rattle.rules.proofs.Choices.{rules-chosen}
 
 lookup-followed : (charset : ℕ) (ds : List Definition) → Admits [] ds → (c : ℕ) → Followed charset ds c (lookup charset (table ds) c .links)
 unfolding lookup

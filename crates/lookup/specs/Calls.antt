@@ -10,10 +10,10 @@ use Rattle.basics.specs.Refusals.{numberOf, Reply, answered, refused, andThen}
 use Rattle.unicode.specs.Characters.{isScalar, isBraille, localOf}
 use Rattle.definitions.specs.declared.Definition.{Definition}
 use Rattle.definitions.specs.Definitions.{table, walk, aliases, WholeWalk}
-use Rattle.table.specs.Words.{charsetOf}
+use Rattle.pairs.specs.Words.{charsetOf}
 use Rattle.table.specs.Check.{lentTable}
-use Rattle.lookup.specs.Rules.{lookup}
-use Rattle.lookup.specs.declared.Answer.{Answer}
+use Rattle.rules.specs.Rules.{lookup}
+use Rattle.rules.specs.declared.Answer.{Answer}
 use Rattle.lookup.specs.declared.Looked.{Looked}
 use Rattle.lookup.specs.declared.Looked.the-variants as L
 use Rattle.lookup.specs.declared.NoScalar.{NoScalar}

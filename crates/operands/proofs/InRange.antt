@@ -15,13 +15,13 @@ use Rattle.basics.specs.declared.Maybe.the-variants.{Nothing, Character}
 use Rattle.unicode.specs.Characters.{isScalar, isOperand, asByte, localCharacter, localByte}
 use Rattle.unicode.specs.Internal.{EightBits}
 use Rattle.unicode.proofs.Charsets.{local-operand, replaced-operand, local-small}
-use Rattle.operands.specs.Characters.{characterOf, operandOf, isUnicodeEscape, byteOf, byteCharacterOf}
-use Rattle.operands.specs.Dots.{raiseBy, raise, raiseInside, ifRaised, endsAt, digitsAt, insideAt, cellAt, dotsAt}
+use Rattle.characters.specs.Characters.{characterOf, operandOf, isUnicodeEscape, byteOf, byteCharacterOf}
+use Rattle.dots.specs.Dots.{raiseBy, raise, raiseInside, ifRaised, endsAt, digitsAt, insideAt, cellAt, dotsAt}
 use Rattle.operands.specs.Operands.{characterAt, dotsFault, dotsOperandAt}
-use Rattle.operands.specs.declared.Raised.{Raised}
-use Rattle.operands.specs.declared.Raised.the-variants.{Not, To}
-use Rattle.operands.specs.declared.CellRead.{CellRead}
-use Rattle.operands.specs.declared.CellRead.the-variants.{Bad, Read}
+use Rattle.dots.specs.declared.Raised.{Raised}
+use Rattle.dots.specs.declared.Raised.the-variants.{Not, To}
+use Rattle.dots.specs.declared.CellRead.{CellRead}
+use Rattle.dots.specs.declared.CellRead.the-variants.{Bad, Read}
 use Rattle.operands.specs.declared.Operand.{Operand}
 use Rattle.operands.specs.declared.Operand.the-variants as O
 use Rattle.operands.specs.declared.DotsOperand.{DotsOperand}

@@ -1,4 +1,2 @@
-pub mod Characters
-pub mod Cells
 pub mod Operands
 pub mod InRange

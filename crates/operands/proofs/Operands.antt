@@ -9,16 +9,17 @@ use Rattle.basics.specs.declared.Refusal.{Refusal}
 use Rattle.basics.specs.declared.Refusal.the-variants.{MissingOperand}
 use Rattle.lines.specs.declared.Word.{Word}
 use Rattle.lines.specs.Words.{wordAt, bytesOf, isMissing}
-use Rattle.operands.specs.Internal.{CellWithin, OperandWithin, DotsWithin}
-use Rattle.operands.specs.Characters.{operandOf, byteCharacterOf}
-use Rattle.operands.specs.Dots.{dotsAt, cellAt}
+use Rattle.dots.specs.Internal.{CellWithin}
+use Rattle.operands.specs.Internal.{OperandWithin, DotsWithin}
+use Rattle.characters.specs.Characters.{operandOf, byteCharacterOf}
+use Rattle.dots.specs.Dots.{dotsAt, cellAt}
 use Rattle.operands.specs.Operands.{wordOperand, characterAt, dotsFault, dotsOperandAt, ifValue, ifDotsValue}
 use Rattle.operands.specs.declared.Operand.{Operand}
 use Rattle.operands.specs.declared.Operand.the-variants as O
 use Rattle.operands.specs.declared.DotsOperand.{DotsOperand}
 use Rattle.operands.specs.declared.DotsOperand.the-variants as D
-use Rattle.operands.specs.declared.CellRead.{CellRead}
-use Rattle.operands.specs.declared.CellRead.the-variants as C
+use Rattle.dots.specs.declared.CellRead.{CellRead}
+use Rattle.dots.specs.declared.CellRead.the-variants as C
 
 -- the position after what was read
 pub cell-within : (r : CellRead) (cell after n : ℕ) → CellWithin r n → r ≡ C.Read cell after → after ≤ n

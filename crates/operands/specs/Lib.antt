@@ -1,4 +1,2 @@
-pub mod Characters
-pub mod Dots
 pub mod Operands
 pub mod Internal

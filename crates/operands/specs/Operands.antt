@@ -9,14 +9,14 @@ use Rattle.basics.specs.declared.Refusal.the-variants.{MissingOperand, BadChara
 use Rattle.basics.specs.declared.Maybe.{Maybe}
 use Rattle.lines.specs.declared.Word.{Word}
 use Rattle.lines.specs.Words.{wordAt, bytesOf, isMissing}
-use Rattle.operands.specs.Characters.{operandOf, byteCharacterOf}
-use Rattle.operands.specs.Dots.{dotsAt, cellAt}
+use Rattle.characters.specs.Characters.{operandOf, byteCharacterOf}
+use Rattle.dots.specs.Dots.{dotsAt, cellAt}
 use Rattle.operands.specs.declared.Operand.{Operand}
 use Rattle.operands.specs.declared.Operand.the-variants as O
 use Rattle.operands.specs.declared.DotsOperand.{DotsOperand}
 use Rattle.operands.specs.declared.DotsOperand.the-variants as D
-use Rattle.operands.specs.declared.CellRead.{CellRead}
-use Rattle.operands.specs.declared.CellRead.the-variants.{Bad, Read}
+use Rattle.dots.specs.declared.CellRead.{CellRead}
+use Rattle.dots.specs.declared.CellRead.the-variants.{Bad, Read}
 
 -- a word with what it stands for
 abbrev pub wordOperand : Maybe → List ℕ → Word → Operand

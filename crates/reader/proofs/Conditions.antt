@@ -15,13 +15,13 @@ use Rattle.definitions.specs.declared.Definition.{Definition}
 use Rattle.definitions.specs.declared.Cell.{Cell}
 use Rattle.definitions.specs.declared.Cell.the-variants.{Absent, Dots}
 use Rattle.definitions.specs.Definitions.{table, types, typedIn}
-use Rattle.table.specs.declared.Walked.{Walked}
-use Rattle.table.specs.Words.{meaningOf}
-use Rattle.table.specs.Internal.{walkWithCell}
-use Rattle.table.proofs.Pairs.{rest, rest-none, rest-more}
-use Rattle.lookup.specs.declared.Answer.{Answer}
-use Rattle.lookup.specs.Rules.{ifDots, choose, lookup}
-use Rattle.lookup.proofs.Choices.{Chosen, choose-chosen, by-walk}
+use Rattle.pairs.specs.declared.Walked.{Walked}
+use Rattle.pairs.specs.Words.{meaningOf}
+use Rattle.pairs.specs.Internal.{walkWithCell}
+use Rattle.pairs.proofs.Pairs.{rest, rest-none, rest-more}
+use Rattle.rules.specs.declared.Answer.{Answer}
+use Rattle.rules.specs.Rules.{ifDots, choose, lookup}
+use Rattle.rules.proofs.Choices.{Chosen, choose-chosen, by-walk}
 use Rattle.reader.specs.Conditions.{hasGlyph}
 
 -- a rule number of 3 or 4, rule 2 passed or not

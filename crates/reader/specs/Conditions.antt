@@ -6,7 +6,7 @@ use lib.Dec.{eqb}
 use Rattle.basics.specs.Choice.{isCharacter}
 use Rattle.definitions.specs.declared.Definition.{Definition}
 use Rattle.definitions.specs.Definitions.{table, typedIn}
-use Rattle.lookup.specs.Rules.{lookup}
+use Rattle.rules.specs.Rules.{lookup}
 
 -- `ifGlyph`: the lookup answers by rule 3 or 4, rule 2 passed or not
 unfoldable pub hasGlyph : ℕ → List Definition → ℕ → Bool

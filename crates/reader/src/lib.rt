@@ -16,7 +16,7 @@ ghost use Prim.Native.Nat.{_+_, _-_, _*_, _≤_, _<_};
 ghost use lib.ListN.{length};
 ghost use Rattle.basics.specs.Choice.{pick};
 ghost use Rattle.lines.specs.Internal.{NextWord};
-ghost use Rattle.table.specs.Words.{charsetOf, definitions};
+ghost use Rattle.pairs.specs.Words.{charsetOf, definitions};
 ghost use Rattle.reader.specs.Conditions.{hasGlyph, hasCell};
 ghost use Rattle.reader.specs.Reader.{conditionOf, directiveOf, finished, dotsLine, aliasLine, conditionAt, glyphCondition, cellCondition, afterDirective, frontOf, ifHolds, readFrom, blockLine, readFirst, readLine};
 ghost use Rattle.reader.specs.Internal.{FrontWithin};
@@ -55,7 +55,7 @@ fn has_glyph(charset: u32, words: &[u32], count: usize, c: u32) -> bool
     if unicode::is_braille(c) {
         return false;
     }
-    let w = table::walk_from(words, count, unicode::local_of(charset, c));
+    let w = pairs::walk_from(words, count, unicode::local_of(charset, c));
     let end = w.cell;
     match end {
         Cell::Absent => false,
@@ -70,7 +70,7 @@ fn has_cell(words: &[u32], count: usize, cell: u8) -> bool
 {
     let mut i = 0;
     while i < count {
-        if definitions::types_cell(table::meaning_of(words[2 * i + 1]), cell) {
+        if definitions::types_cell(pairs::meaning_of(words[2 * i + 1]), cell) {
             return true;
         }
         i += 1;

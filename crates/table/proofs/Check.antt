@@ -19,9 +19,9 @@ use Rattle.definitions.specs.Definitions.{find}
 use Rattle.definitions.specs.Effects.{definitionLimit, isDefined, closesLoop}
 use Rattle.table.specs.declared.Checked.{Checked}
 use Rattle.table.specs.declared.Checked.the-variants.{Sound, FaultAt}
-use Rattle.table.specs.Words.{pairWords, tableWords, charsetOf, meaningOf, definitionOf, definitions}
+use Rattle.pairs.specs.Words.{pairWords, tableWords, charsetOf, meaningOf, definitionOf, definitions}
 use Rattle.table.specs.Check.{isZeroPair, isSoundPair, zeroFrom, checkFrom, isSoundEnd, checkOf}
-use Rattle.table.proofs.Pairs.{definitions-length, definitions-more, rest, scan-here, scan-none}
+use Rattle.pairs.proofs.Pairs.{definitions-length, definitions-more, rest, scan-here, scan-none}
 
 module _ (ws : List ℕ) (k : ℕ) where
   abbrev character : ℕ

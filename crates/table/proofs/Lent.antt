@@ -8,7 +8,7 @@ use Rattle.basics.proofs.Tests.{told}
 use Rattle.basics.specs.Refusals.{answered, refused}
 use Rattle.table.specs.declared.Checked.{Checked}
 use Rattle.table.specs.declared.Checked.the-variants.{Sound, FaultAt}
-use Rattle.table.specs.Words.{tableWords, definitions}
+use Rattle.pairs.specs.Words.{tableWords, definitions}
 use Rattle.table.specs.Check.{checkOf, lentTable}
 use Rattle.table.proofs.Readback.{lent}
 

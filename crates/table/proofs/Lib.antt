@@ -1,5 +1,3 @@
-pub mod Pairs
-pub mod Walks
 pub mod Check
 pub mod Readback
 pub mod Lent

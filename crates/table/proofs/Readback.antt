@@ -20,7 +20,7 @@ use Rattle.definitions.specs.declared.Definition.{Definition}
 use Rattle.definitions.specs.declared.Verdict.the-variants.{Admitted}
 use Rattle.definitions.specs.Effects.{definitionLimit, isDefined, closesLoop, verdictOf}
 use Rattle.definitions.proofs.Admission.{admissible, Admits, admits-limit}
-use Rattle.table.specs.Words.{pairWords, tableWords, kindUnit, wordOf, wordsOf, pairsOf, imageOf, charsetOf, isSoundWord, meaningOf, definitionOf, definitions}
+use Rattle.pairs.specs.Words.{pairWords, tableWords, kindUnit, wordOf, wordsOf, pairsOf, imageOf, charsetOf, isSoundWord, meaningOf, definitionOf, definitions}
 use Rattle.table.specs.Check.{isZeroPair, isDefinable, isSoundPair, isFresh, zeroFrom, checkFrom, isSoundEnd, andEnd, checkOf, checkedTable, lentTable}
 use Rattle.table.specs.declared.Checked.{Checked}
 use Rattle.table.specs.declared.Checked.the-variants.{Sound, FaultAt}

@@ -12,9 +12,9 @@ use Rattle.definitions.specs.declared.Definition.{Definition}
 use Rattle.definitions.specs.declared.Meaning.{Meaning}
 use Rattle.definitions.specs.declared.Meaning.the-variants.{Typed, Shown, Alias}
 use Rattle.definitions.specs.Effects.{definitionLimit}
-use Rattle.table.specs.Words.{pairWords, tableWords, kindUnit, wordOf, wordsOf, pairsOf, imageOf, charsetOf, definitions}
+use Rattle.pairs.specs.Words.{pairWords, tableWords, kindUnit, wordOf, wordsOf, pairsOf, imageOf, charsetOf, definitions}
 use Rattle.table.specs.Internal.{Written}
-use Rattle.table.proofs.Pairs.{definitions-length, definitions-two}
+use Rattle.pairs.proofs.Pairs.{definitions-length, definitions-two}
 use Rattle.table.proofs.Readback.{isNumberInRange, InRange, operand-small, word-says, behind-charset, behind-beyond}
 
 -- a set put down in zeroed words

@@ -10,7 +10,7 @@ use Rattle.basics.specs.Refusals.{Reply, answered, refused}
 use Rattle.unicode.specs.Characters.{isBraille, isOperand, isCharset}
 use Rattle.definitions.specs.declared.Definition.{Definition}
 use Rattle.definitions.specs.Effects.{definitionLimit, isDefined, closesLoop}
-use Rattle.table.specs.Words.{pairWords, tableWords, isSoundWord, definitionOf, definitions, charsetOf}
+use Rattle.pairs.specs.Words.{pairWords, tableWords, isSoundWord, definitionOf, definitions, charsetOf}
 use Rattle.table.specs.declared.Checked.{Checked}
 use Rattle.table.specs.declared.Checked.the-variants.{Sound, FaultAt}
 

@@ -1,15 +1,10 @@
--- What the code knows beyond the rules: a walk with the explicit cell of its end, and words that are a table so far.
+-- What the code knows beyond the rules: words that are a table so far.
 use Prim.Native.Nat.{ℕ, _≤_}
 use mathlib.Core.Path.{_≡_}
 use mathlib.Core.List.{List, _++_}
 use lib.ListN.{length, drop}
-use Rattle.definitions.specs.Definitions.{Table, walk, explicit}
 use Rattle.definitions.specs.Effects.{definitionLimit}
-use Rattle.table.specs.Words.{tableWords, imageOf, charsetOf, definitions}
-use Rattle.table.specs.declared.Walked.{Walked}
-
-abbrev pub walkWithCell : Table → ℕ → Walked
-walkWithCell T c = record { end = walk T c .end; links = walk T c .links; cell = explicit T (walk T c .end) }
+use Rattle.pairs.specs.Words.{tableWords, imageOf, charsetOf, definitions}
 
 -- the words of a slice are the table of their first pairs, for the set that they hold
 pub record Written (ws : List ℕ) (count : ℕ) : Type 0 where

@@ -10,9 +10,9 @@ use Rattle.basics.specs.declared.Filling.{Filling}
 use Rattle.basics.specs.declared.Filling.the-variants.{Filled, Refused}
 use Rattle.definitions.specs.declared.Meaning.{Meaning}
 use Rattle.definitions.specs.declared.Definition.{Definition}
-use Rattle.table.specs.Words.{meaningOf, definitionOf, definitions}
+use Rattle.pairs.specs.Words.{meaningOf, definitionOf, definitions}
 use Rattle.table.specs.Check.{lentTable}
-use Rattle.table.proofs.Pairs.{definitions-more}
+use Rattle.pairs.proofs.Pairs.{definitions-more}
 use Rattle.typing.specs.declared.Entry.{Entry}
 use Rattle.typing.specs.Typing.{nothing, withMeaning, entriesOf, typingReply, typingEntries}
 use Rattle.typing.proofs.TypedCells.{entries-more}

@@ -9,7 +9,7 @@ ghost use mathlib.Core.Path.{_≡_};
 ghost use Prim.Native.Nat.{_*_, _≤_};
 ghost use lib.ListN.{length, replicate};
 ghost use Rattle.basics.specs.Refusals.{fillingReply};
-ghost use Rattle.table.specs.Words.{definitions};
+ghost use Rattle.pairs.specs.Words.{definitions};
 ghost use Rattle.typing.specs.Typing.{nothing, keptIn, entriesOf, typingReply, typingEntries};
 
 // What one cell types.
@@ -46,7 +46,7 @@ fn fill_entries(words: &[u32], count: usize) -> [Entry; 256]
     }; 256];
     let mut i = 0;
     while i < count {
-        let m = table::meaning_of(words[2 * i + 1]);
+        let m = pairs::meaning_of(words[2 * i + 1]);
         match m {
             Meaning::Typed(dots) => {
                 let at = dots as usize;

@@ -12,12 +12,12 @@ use Rattle.basics.specs.Refusals.{Reply, answered, refused}
 use Rattle.unicode.specs.Characters.{isScalar}
 use Rattle.definitions.specs.declared.Definition.{Definition}
 use Rattle.definitions.specs.Definitions.{table}
-use Rattle.table.specs.Words.{charsetOf}
+use Rattle.pairs.specs.Words.{charsetOf}
 use Rattle.table.specs.Check.{lentTable}
 use Rattle.lookup.specs.declared.NoScalar.{NoScalar}
 use Rattle.lookup.specs.declared.NoScalar.the-variants.{Nowhere, At}
-use Rattle.lookup.specs.declared.Answer.{Answer}
-use Rattle.lookup.specs.Rules.{lookup}
+use Rattle.rules.specs.declared.Answer.{Answer}
+use Rattle.rules.specs.Rules.{lookup}
 use Rattle.lookup.specs.Calls.{firstNoScalar, over, pagePlan, pageReply, pageCells, pageRules}
 use Rattle.windows.specs.declared.Window.{Window}
 use Rattle.windows.specs.Windows.{partOf, partsOf, widths, allWithin, bothHold, windowsPlan}

@@ -15,8 +15,8 @@ use Rattle.basics.proofs.Loops.{two-more}
 use Rattle.basics.specs.Refusals.{Reply, answered, refused}
 use Rattle.basics.specs.declared.Refusal.{Refusal}
 use Rattle.basics.specs.declared.Refusal.the-variants.{BeyondPage}
-use Rattle.table.specs.Words.{charsetOf, tableOf}
-use Rattle.lookup.specs.Internal.{lookupBy}
+use Rattle.pairs.specs.Words.{charsetOf, tableOf}
+use Rattle.rules.specs.Internal.{lookupBy}
 use Rattle.windows.specs.declared.Window.{Window}
 use Rattle.windows.specs.declared.Prepared.{Prepared}
 use Rattle.windows.specs.declared.Run.{Run}

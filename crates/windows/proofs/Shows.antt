@@ -15,13 +15,13 @@ use Rattle.basics.specs.declared.Refusal.{Refusal}
 use Rattle.basics.specs.declared.Refusal.the-variants.{ShortSlice, NotTable, NotScalar, BeyondPage}
 use Rattle.table.specs.declared.Checked.{Checked}
 use Rattle.table.specs.declared.Checked.the-variants.{Sound, FaultAt}
-use Rattle.table.specs.Words.{tableWords, definitions}
+use Rattle.pairs.specs.Words.{tableWords, definitions}
 use Rattle.table.specs.Check.{checkOf, lentTable}
 use Rattle.table.proofs.Lent.{lent-short, lent-fault, lent-sound, lent-fits}
-use Rattle.lookup.specs.declared.Answer.{Answer}
+use Rattle.rules.specs.declared.Answer.{Answer}
 use Rattle.lookup.specs.declared.NoScalar.{NoScalar}
 use Rattle.lookup.specs.declared.NoScalar.the-variants.{Nowhere, At}
-use Rattle.lookup.specs.Rules.{candidates, rulesFrom3, lookup}
+use Rattle.rules.specs.Rules.{candidates, rulesFrom3, lookup}
 use Rattle.lookup.specs.Calls.{firstNoScalar, pageReply, pageCells, pageRules}
 use Rattle.windows.specs.declared.Window.{Window}
 use Rattle.windows.specs.declared.Prepared.{Prepared}

@@ -12,13 +12,13 @@ use Rattle.basics.specs.declared.Refusal.{Refusal}
 use Rattle.basics.specs.declared.Refusal.the-variants.{ShortSlice, NotTable, NotScalar}
 use Rattle.table.specs.declared.Checked.{Checked}
 use Rattle.table.specs.declared.Checked.the-variants.{Sound, FaultAt}
-use Rattle.table.specs.Words.{tableWords, tableOf}
+use Rattle.pairs.specs.Words.{tableWords, tableOf}
 use Rattle.table.specs.Check.{checkOf}
-use Rattle.lookup.specs.declared.LastCells.{LastCells}
+use Rattle.rules.specs.declared.LastCells.{LastCells}
 use Rattle.lookup.specs.declared.NoScalar.{NoScalar}
 use Rattle.lookup.specs.declared.NoScalar.the-variants.{Nowhere, At}
 use Rattle.lookup.specs.Calls.{firstNoScalar}
-use Rattle.lookup.specs.Internal.{lastCells}
+use Rattle.rules.specs.Internal.{lastCells}
 use Rattle.windows.specs.declared.Window.{Window}
 use Rattle.windows.specs.declared.Prepared.{Prepared}
 use Rattle.windows.specs.declared.Run.{Run}

@@ -10,12 +10,12 @@ use Rattle.basics.specs.declared.Filling.{Filling}
 use Rattle.basics.specs.declared.Filling.the-variants as F
 use Rattle.table.specs.declared.Checked.{Checked}
 use Rattle.table.specs.declared.Checked.the-variants.{Sound, FaultAt}
-use Rattle.table.specs.Words.{tableWords, charsetOf, tableOf}
+use Rattle.pairs.specs.Words.{tableWords, charsetOf, tableOf}
 use Rattle.table.specs.Check.{checkOf}
 use Rattle.lookup.specs.declared.NoScalar as No
 use Rattle.lookup.specs.declared.NoScalar.the-variants.{Nowhere, At}
 use Rattle.lookup.specs.Calls.{firstNoScalar, over}
-use Rattle.lookup.specs.Internal.{lastCells, lookupBy}
+use Rattle.rules.specs.Internal.{lastCells, lookupBy}
 use Rattle.windows.specs.declared.Window.{Window}
 use Rattle.windows.specs.declared.Prepared.{Prepared}
 use Rattle.windows.specs.declared.Run.{Run}

@@ -4,7 +4,7 @@ use mathlib.Core.Path.{_≡_}
 use mathlib.Core.List.{List, [], _∷_, _++_}
 use lib.ListN.{length, take, drop}
 use Rattle.basics.specs.Refusals.{Reply, answered, andThen}
-use Rattle.lookup.specs.declared.Answer.{Answer}
+use Rattle.rules.specs.declared.Answer.{Answer}
 use Rattle.lookup.specs.Calls.{pagePlan, pageReply, pageCells, pageRules}
 use Rattle.windows.specs.declared.Window.{Window}
 use Rattle.windows.specs.Windows.{partOf, PagesWindows}

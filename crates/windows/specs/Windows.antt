@@ -7,10 +7,10 @@ use lib.Dec.{leb}
 use Rattle.basics.specs.Choice.{pick}
 use Rattle.basics.specs.Refusals.{Reply, answered, refused, andThen}
 use Rattle.definitions.specs.Definitions.{table}
-use Rattle.table.specs.Words.{charsetOf}
+use Rattle.pairs.specs.Words.{charsetOf}
 use Rattle.table.specs.Check.{lentTable}
-use Rattle.lookup.specs.declared.Answer.{Answer}
-use Rattle.lookup.specs.Rules.{lookup}
+use Rattle.rules.specs.declared.Answer.{Answer}
+use Rattle.rules.specs.Rules.{lookup}
 use Rattle.lookup.specs.Calls.{firstNoScalar, unlessAt, Pages}
 use Rattle.windows.specs.declared.Window.{Window}
 

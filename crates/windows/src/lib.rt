@@ -3,8 +3,8 @@
 // one window by value.
 use basics::Filling;
 use basics::Refusal;
-use lookup::LastCells;
 use lookup::NoScalar;
+use rules::LastCells;
 use table::Checked;
 use table::TABLE_WORDS;
 ghost use mathlib.Core.Path.{_≡_};
@@ -220,7 +220,7 @@ fn begin(words: &[u32]) -> Run
     match table::check_table(words) {
         Checked::FaultAt(pair) => Run::Refused(Refusal::NotTable, pair),
         Checked::Sound(count) => {
-            let last = lookup::last_cells(words, count);
+            let last = rules::last_cells(words, count);
             Run::Measuring(Prepared { count, last }, 0)
         }
     }

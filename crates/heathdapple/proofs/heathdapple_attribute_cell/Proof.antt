@@ -1,4 +1,4 @@
-use Rattle.heathdapple.proofs.Codes.{attribute-code}
+use Rattle.codes.proofs.Codes.{attribute-code}
 use borrow.Author.Needs.{needs}
 use Rattle.heathdapple.proofs.heathdapple_attribute_cell.Statement.{statement}
 use Rattle.heathdapple.proofs.heathdapple_attribute_cell.Tie as tie

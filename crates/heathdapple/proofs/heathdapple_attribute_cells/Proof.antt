@@ -1,6 +1,6 @@
 use borrow.Author.Needs.{needs}
 use Rattle.lines.specs.Texts.{compiledReply, compiledColumn}
-use Rattle.heathdapple.proofs.WholeTables.{short-code, short-column, short-left, long-code, long-column, cells-left}
+use Rattle.codes.proofs.WholeTables.{short-code, short-column, short-left, long-code, long-column, cells-left}
 use Rattle.heathdapple.proofs.heathdapple_attribute_cells.Statement.{statement}
 use Rattle.heathdapple.proofs.heathdapple_attribute_cells.Tie as tie
 

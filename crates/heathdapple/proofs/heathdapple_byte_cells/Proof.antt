@@ -1,5 +1,5 @@
 use Rattle.lines.specs.Texts.{compiledReply, compiledColumn}
-use Rattle.heathdapple.proofs.WholeTables.{short-code, short-column, long-code, long-column, bytes-short, bytes-left}
+use Rattle.codes.proofs.WholeTables.{short-code, short-column, long-code, long-column, bytes-short, bytes-left}
 use borrow.Author.Needs.{needs}
 use Rattle.heathdapple.proofs.heathdapple_byte_cells.Statement.{statement}
 use Rattle.heathdapple.proofs.heathdapple_byte_cells.Tie as tie

@@ -1,4 +1,4 @@
-use Rattle.heathdapple.proofs.Codes.{code-of}
+use Rattle.codes.proofs.Codes.{code-of}
 use Rattle.lines.specs.Texts.{compiledReply, compiledColumn}
 use borrow.Author.Needs.{needs}
 use Rattle.heathdapple.proofs.heathdapple_compile.Statement.{statement}

@@ -1,7 +1,7 @@
 use borrow.Author.Needs.{needs}
 use Rattle.basics.specs.Refusals.{fillingReply}
-use Rattle.heathdapple.proofs.Codes.{noColumn}
-use Rattle.heathdapple.proofs.WholeTables.{short-code, short-left, long-code, entries-fit, entries-left}
+use Rattle.codes.proofs.Codes.{noColumn}
+use Rattle.codes.proofs.WholeTables.{short-code, short-left, long-code, entries-fit, entries-left}
 use Rattle.heathdapple.proofs.heathdapple_entries.Statement.{statement}
 use Rattle.heathdapple.proofs.heathdapple_entries.Tie as tie
 

@@ -1,7 +1,7 @@
-use Rattle.heathdapple.proofs.Codes.{noColumn, code-of}
+use Rattle.codes.proofs.Codes.{noColumn, code-of}
 use Rattle.lookup.proofs.WholeWalks.{shown-small}
 use Rattle.lookup.specs.Calls.{lookedReply}
-use Rattle.heathdapple.specs.Codes.{answerCode}
+use Rattle.codes.specs.Codes.{answerCode}
 use borrow.Author.Needs.{needs}
 use Rattle.heathdapple.proofs.heathdapple_look_up.Statement.{statement}
 use Rattle.heathdapple.proofs.heathdapple_look_up.Tie as tie

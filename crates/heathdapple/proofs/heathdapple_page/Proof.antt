@@ -1,5 +1,5 @@
 use Rattle.lookup.proofs.Replies.{pages-given}
-use Rattle.heathdapple.specs.Codes.{fillingCode}
+use Rattle.codes.specs.Codes.{fillingCode}
 use borrow.Author.Needs.{needs}
 use Rattle.heathdapple.proofs.heathdapple_page.Statement.{statement}
 use Rattle.heathdapple.proofs.heathdapple_page.Tie as tie

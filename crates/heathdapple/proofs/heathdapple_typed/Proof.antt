@@ -1,4 +1,4 @@
-use Rattle.heathdapple.proofs.Codes.{typed-code}
+use Rattle.codes.proofs.Codes.{typed-code}
 use borrow.Author.Needs.{needs}
 use Rattle.heathdapple.proofs.heathdapple_typed.Statement.{statement}
 use Rattle.heathdapple.proofs.heathdapple_typed.Tie as tie

@@ -43,7 +43,7 @@ use Rattle.basics.specs.declared.Filling.{Filling}
 use Rattle.basics.specs.Refusals.{fillingReply}
 use Rattle.windows.specs.Windows.{PagesWindows}
 use Rattle.lookup.proofs.Replies.{pages-given}
-use Rattle.heathdapple.specs.Codes.{fillingCode}
+use Rattle.codes.specs.Codes.{fillingCode}
 use Rattle.windows.proofs.Parameters.{again-ty}
 use Rattle.windows.proofs.Window as T
 use Rattle.basics.proofs.Filling as U
@@ -52,10 +52,10 @@ use Rattle.windows.proofs.show as show
 use Rattle.windows.proofs.show.Symbol as show-def
 use Rattle.windows.proofs.show.Symbol.{name as #windows·show}
 use Rattle.windows.proofs.show.Met as show-thm
-use Rattle.heathdapple.proofs.filling_code as filling-code
-use Rattle.heathdapple.proofs.filling_code.Symbol as filling-code-def
-use Rattle.heathdapple.proofs.filling_code.Symbol.{name as #heathdapple·filling-code}
-use Rattle.heathdapple.proofs.filling_code.Met as filling-code-thm
+use Rattle.codes.proofs.filling_code as filling-code
+use Rattle.codes.proofs.filling_code.Symbol as filling-code-def
+use Rattle.codes.proofs.filling_code.Symbol.{name as #codes·filling-code}
+use Rattle.codes.proofs.filling_code.Met as filling-code-thm
 use Rattle.heathdapple.proofs.heathdapple_windows.Key.{name as #heathdapple·heathdapple-windows}
 use Rattle.heathdapple.proofs.heathdapple_windows as exported
 use Rattle.heathdapple.proofs.heathdapple_windows.Statement as stated
@@ -188,7 +188,7 @@ module _ {M : Type 1} (𝓤 : URA M) (H : Heap 𝓤) (A : Atoms 𝓤) (W : Given
   abbrev Begun : (l0 l1 l2 l3 l4 l5 l6 l7 l8 l9 l10 : ℕ) → List (Item 𝓤)
   Begun l0 l1 l2 l3 l4 l5 l6 l7 l8 l9 l10 = ‵ (froom (sliceTy again-ty) l10 0) ∷ ‵ (fdies (sliceTy again-ty) l10) ∷ ‵ (froom again-ty l9 0) ∷ ‵ (fdies again-ty l9) ∷ ‵ (froom (sliceTy again-ty) l8 0) ∷ ‵ (fdies (sliceTy again-ty) l8) ∷ ‵ (froom again-ty l7 0) ∷ ‵ (fdies again-ty l7) ∷ ‵ (froom U′.mir l6 0) ∷ ‵ (fdies U′.mir l6) ∷ ‵ (fat fullShare rules-ty l5 0 rules-val) ∷ ‵ (fdies rules-ty l5) ∷ ‵ (fat fullShare cells-ty l4 0 cells-val) ∷ ‵ (fdies cells-ty l4) ∷ ‵ (fat fullShare windows-ty l3 0 windows-val) ∷ ‵ (fdies windows-ty l3) ∷ ‵ (fat fullShare characters-ty l2 0 characters-val) ∷ ‵ (fdies characters-ty l2) ∷ ‵ (fat fullShare words-ty l1 0 words-val) ∷ ‵ (fdies words-ty l1) ∷ ‵ (froom (tyInt w64) l0 0) ∷ ‵ (fdies (tyInt w64) l0) ∷ (‵ (flft κ0 q0) ⊛ ‵ (flft κ1 q1) ⊛ ‵ (flft κ2 q2) ⊛ ‵ (flft κ3 q3) ⊛ ‵ (flft κ4 q4) ⊛ ‵ ftrue) ∷ ‵ (owns (ShrSlice (named 0) κ0 u32 ∷ ShrSlice (named 1) κ1 u32 ∷ ShrSlice (named 2) κ2 T.the-row ∷ MutSlice (named 3) κ3 u8 ∷ MutSlice (named 4) κ4 u8 ∷ []) a vals) ∷ []
 
-  module _ (C : Calls 𝓤 H) (Λ : Loops 𝓤 H) (fm : FmC 𝓤 H (W .laws) C) (known-show : Triple 𝓤 (C #windows·show) (Shows 𝓤 H A mem run)) (known-code : Triple 𝓤 (C #heathdapple·filling-code) (Codes 𝓤 H A mem run)) (l0 l1 l2 l3 l4 l5 l6 l7 l8 l9 l10 : ℕ) where
+  module _ (C : Calls 𝓤 H) (Λ : Loops 𝓤 H) (fm : FmC 𝓤 H (W .laws) C) (known-show : Triple 𝓤 (C #windows·show) (Shows 𝓤 H A mem run)) (known-code : Triple 𝓤 (C #codes·filling-code) (Codes 𝓤 H A mem run)) (l0 l1 l2 l3 l4 l5 l6 l7 l8 l9 l10 : ℕ) where
     abbrev En : Env 𝓤 H
     En = Locals 𝓤 H l0 l1 l2 l3 l4 l5 l6 l7 l8 l9 l10
 
@@ -227,7 +227,7 @@ module _ {M : Type 1} (𝓤 : URA M) (H : Heap 𝓤) (A : Atoms 𝓤) (W : Given
       by ! (k l0 l1 l2 l3 l4 l5 l6 l7 l8 l9 l10))))))))))))
 
 meets : {M : Type 1} (𝓤 : URA M) (H : Heap 𝓤) (A : Atoms 𝓤) → Given 𝓤 H A → (mem : Memory → SProp 𝓤) (run : Routine → Fun 𝓤) (𝓣 : Tables 𝓤 H)
-    → Triple 𝓤 (𝓣 .C #windows·show) (Shows 𝓤 H A mem run) → Triple 𝓤 (𝓣 .C #heathdapple·filling-code) (Codes 𝓤 H A mem run)
+    → Triple 𝓤 (𝓣 .C #windows·show) (Shows 𝓤 H A mem run) → Triple 𝓤 (𝓣 .C #codes·filling-code) (Codes 𝓤 H A mem run)
     → Meets 𝓤 H A exported.signature (WpFn 𝓤 H (𝓣 .C) (𝓣 .Λ) code.function) (exported.spec 𝓤 H A mem run)
 meets 𝓤 H A W mem run 𝓣 known-show known-code =
     walk-meets 𝓤 H A exported.ended stayed W (goes-none-slice 𝓤 H A W 5 (0 ∷ []) tt (plain (λ _. u32)) yes, (goes-none-slice 𝓤 H A W 5 (1 ∷ []) tt (plain (λ _. u32)) yes, (goes-none-slice 𝓤 H A W 5 (2 ∷ []) tt (plain (λ _. T.the-row)) yes, (goes-gave-slice 𝓤 H A W 5 3 tt (plain (λ _. u8)), (goes-gave-slice 𝓤 H A W 5 4 tt (plain (λ _. u8)), tt)))))
@@ -243,4 +243,4 @@ heathdapple-windows-spec 𝓤 H 𝓜 𝓖 𝓡 =
     (tables 𝓤 H 𝓜 𝓡 code.env .C) (tables 𝓤 H 𝓜 𝓡 code.env .Λ) #heathdapple·heathdapple-windows code.function (code.unfolded 𝓤 H 𝓜 𝓡)
     (meets 𝓤 H (𝓖 .A) (givenOf 𝓤 H 𝓜 𝓖) (𝓜 .mem) (𝓡 .run) (tablesOf 𝓤 H 𝓜 (tables 𝓤 H 𝓜 𝓡 code.env))
     (cited 𝓤 H (Shows 𝓤 H (𝓖 .A) (𝓜 .mem) (𝓡 .run)) 𝓜 𝓡 code.env #windows·show show-def.routine code.calls-windows·show (show-thm.met 𝓤 H 𝓜 𝓖 𝓡))
-    (cited 𝓤 H (Codes 𝓤 H (𝓖 .A) (𝓜 .mem) (𝓡 .run)) 𝓜 𝓡 code.env #heathdapple·filling-code filling-code-def.routine code.calls-heathdapple·filling-code (filling-code-thm.met 𝓤 H 𝓜 𝓖 𝓡)))
+    (cited 𝓤 H (Codes 𝓤 H (𝓖 .A) (𝓜 .mem) (𝓡 .run)) 𝓜 𝓡 code.env #codes·filling-code filling-code-def.routine code.calls-codes·filling-code (filling-code-thm.met 𝓤 H 𝓜 𝓖 𝓡)))

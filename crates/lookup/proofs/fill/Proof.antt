@@ -2,8 +2,8 @@ use borrow.Author.Needs.{needs}
 use Prim.Native.Nat.{ℕ, _≤_, _-_}
 use mathlib.Core.Path.{_≡_, refl}
 use lib.ListN.{length}
-use Rattle.table.specs.Words.{charsetOf, tableOf}
-use Rattle.lookup.specs.Internal.{lookupBy}
+use Rattle.pairs.specs.Words.{charsetOf, tableOf}
+use Rattle.rules.specs.Internal.{lookupBy}
 use Rattle.lookup.proofs.Buffers.{filledTo, filled-more, filled-all}
 use Rattle.lookup.proofs.Replies.{same-cell, same-rule}
 use Rattle.lookup.proofs.fill.Statement.{statement}

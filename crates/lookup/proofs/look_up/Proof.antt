@@ -1,6 +1,6 @@
 use Rattle.lookup.proofs.Replies.{look-refused, look-sound}
 use Rattle.basics.proofs.Tests.{chosen}
-use Rattle.lookup.proofs.Choices.{by-last}
+use Rattle.rules.proofs.Choices.{by-last}
 use Rattle.table.proofs.Lent.{lent-short, lent-fault, lent-fits}
 use Rattle.lookup.proofs.WholeWalks.{lent-links}
 use borrow.Author.Needs.{needs}

@@ -4,8 +4,8 @@ use mathlib.Core.Path.{_≡_}
 use lib.ListN.{length}
 use Rattle.basics.specs.Choice.{isCharacter}
 use Rattle.definitions.specs.Definitions.{typedIn}
-use Rattle.table.specs.Words.{definitions}
-use Rattle.table.proofs.Pairs.{rest, rest-all}
+use Rattle.pairs.specs.Words.{definitions}
+use Rattle.pairs.proofs.Pairs.{rest, rest-all}
 use Rattle.reader.specs.Conditions.{hasCell}
 use Rattle.reader.proofs.Conditions.{cell-here, cell-later, cell-none}
 use Rattle.reader.proofs.has_cell.Statement.{statement}

@@ -1,4 +1,4 @@
-use Rattle.table.proofs.Pairs.{few-words}
+use Rattle.pairs.proofs.Pairs.{few-words}
 use borrow.Author.Needs.{needs}
 use Rattle.table.proofs.charset_of.Statement.{statement}
 use Rattle.table.proofs.charset_of.Tie as tie

@@ -9,9 +9,9 @@ use Rattle.definitions.specs.Definitions.{find}
 use Rattle.definitions.specs.Effects.{definitionLimit}
 use Rattle.basics.proofs.Tests.{chosen}
 use borrow.Author.Tests.{not-true, not-false}
-use Rattle.table.specs.Words.{pairWords, definitionOf, definitions}
+use Rattle.pairs.specs.Words.{pairWords, definitionOf, definitions}
 use Rattle.table.specs.Check.{checkFrom}
-use Rattle.table.proofs.Pairs.{rest, rest-all, scan-later}
+use Rattle.pairs.proofs.Pairs.{rest, rest-all, scan-later}
 use Rattle.table.proofs.Check.{ifFresh, check-start, check-next, check-repeat, check-none, check-over}
 use Rattle.table.proofs.check_words.Statement.{statement}
 use Rattle.table.proofs.check_words.Tie as tie

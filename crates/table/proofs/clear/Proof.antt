@@ -1,7 +1,7 @@
 use Prim.Native.Nat.{ℕ, _+_, _<_, _≤_, _-_}
 use mathlib.Core.List.{List, _++_}
 use lib.ListN.{set, length, drop, replicate}
-use Rattle.table.specs.Words.{tableWords}
+use Rattle.pairs.specs.Words.{tableWords}
 use borrow.Author.Needs.{needs}
 use borrow.Author.Fill.{fill-more}
 use mathlib.Core.Path.{_≡_, refl}

@@ -1,5 +1,5 @@
 use Rattle.basics.proofs.Tests.{tests}
-use Rattle.table.specs.Words.{isSoundWord}
+use Rattle.pairs.specs.Words.{isSoundWord}
 use borrow.Author.Needs.{needs}
 use Rattle.table.proofs.is_sound_word.Statement.{statement}
 use Rattle.table.proofs.is_sound_word.Tie as tie

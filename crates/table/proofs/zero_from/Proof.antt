@@ -1,7 +1,7 @@
 use Rattle.definitions.specs.Effects.{definitionLimit}
 use Rattle.basics.proofs.Tests.{chosen}
 use borrow.Author.Tests.{not-true, not-false}
-use Rattle.table.specs.Words.{pairWords}
+use Rattle.pairs.specs.Words.{pairWords}
 use borrow.Author.Needs.{needs}
 use Prim.Native.Nat.{_*_, _≤_, _-_}
 use mathlib.Core.Path.{_≡_, refl}

@@ -2,7 +2,7 @@ use mathlib.Core.Logic.{⊎-elim}
 use borrow.Author.Needs.{needs}
 use Prim.Native.Nat.{_-_, _≤_}
 use mathlib.Core.Path.{_≡_, refl}
-use Rattle.table.specs.Words.{definitions}
+use Rattle.pairs.specs.Words.{definitions}
 use Rattle.typing.specs.Typing.{filledFrom, entriesOf}
 use Rattle.typing.proofs.Calls.{scan-on, scan-over}
 use Rattle.typing.proofs.fill_entries.Statement.{statement}

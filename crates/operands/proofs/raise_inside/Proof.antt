@@ -1,9 +1,0 @@
-use Rattle.basics.proofs.Tests.{chosen}
-use borrow.Author.Needs.{needs}
-use Rattle.operands.specs.Dots.{raiseInside}
-use Rattle.operands.proofs.raise_inside.Statement.{statement}
-use Rattle.operands.proofs.raise_inside.Tie as tie
-
-pub raise-inside-spec : {M : Type 1} → statement M
-unfolding raiseInside
-raise-inside-spec = tie.close (tie.spec (λ c κs. search needs) (λ c. search chosen) (λ c κs. search needs) (λ c. search chosen))

@@ -1,7 +1,0 @@
-use Rattle.basics.proofs.Tests.{chosen}
-use borrow.Author.Needs.{needs}
-use Rattle.operands.proofs.word_value.Statement.{statement}
-use Rattle.operands.proofs.word_value.Tie as tie
-
-pub word-value-spec : {M : Type 1} → statement M
-word-value-spec = tie.close (tie.spec (λ c κs. search needs) (λ c. search chosen) (λ c κs. search needs) (λ c. search chosen))

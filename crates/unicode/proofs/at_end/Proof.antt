@@ -1,6 +1,0 @@
-use borrow.Author.Needs.{needs}
-use Rattle.unicode.proofs.at_end.Statement.{statement}
-use Rattle.unicode.proofs.at_end.Tie as tie
-
-pub at-end-spec : {M : Type 1} → statement M
-at-end-spec = tie.close (tie.spec (λ c. search needs) (λ c. search needs) (λ c. search needs) (λ c. search needs) (λ c. cc) (λ c. cc))
