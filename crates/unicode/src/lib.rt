@@ -1,4 +1,4 @@
-// Characters: UTF-8, scalar values, the local character sets, base characters, ASCII stand-ins.
+// Characters: scalar values, the two rows, the local character sets, base characters, ASCII stand-ins.
 use basics::Maybe;
 use basics::widen;
 ghost use mathlib.Core.Path.{_≡_};

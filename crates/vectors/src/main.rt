@@ -3,6 +3,9 @@ use answers::Text;
 use libc::STDIN_FILENO;
 use libc::STDOUT_FILENO;
 
+// More than the cases take; an input that fills it is told.
+const BUFFER: usize = 262144;
+
 // How many lines and cases there were so far, and how many cases differ.
 struct Tally {
     lines: u64,
@@ -57,6 +60,13 @@ fn with_line(t: Tally, line: &[u8]) -> Tally {
     }
 }
 
+// Says that the input fills the buffer, so that cases behind it would not have run.
+fn write_full(length: usize) {
+    io::write_all(STDOUT_FILENO, b"the input fills the buffer of ");
+    io::print_decimal(STDOUT_FILENO, length as u64);
+    io::write_all(STDOUT_FILENO, b" bytes: cases behind it were not run\n");
+}
+
 fn run(file: &[u8]) {
     let mut t = Tally {
         lines: 0,
@@ -73,7 +83,10 @@ fn run(file: &[u8]) {
 }
 
 fn main() {
-    let mut file = [0u8; 262144];
+    let mut file = [0u8; BUFFER];
     let n = io::read_full(STDIN_FILENO, &mut file);
     run(&file[..n]);
+    if n == BUFFER {
+        write_full(n);
+    }
 }
