@@ -1,4 +1,5 @@
-// What the exported calls answer, as one number, and the buffers that they write for all 256 cells or bytes. specs/Codes.antt says how.
+// What the exported calls answer, as one number, and the buffers that they fill for all 256 cells or bytes;
+// specs/Codes.antt says how.
 use attributes::Place;
 use basics::Filling;
 use basics::Maybe;

@@ -59,7 +59,7 @@ abbrev pub isAccepted : Reply ℕ → Bool
 isAccepted (answered count) = true
 isAccepted (refused number line) = false
 
--- whether a case comes out as it is written, its text being accepted; of a refused one no words are left that answer a lookup
+-- whether a case comes out as it is written, its text being accepted; the words that a refused one leaves answer no lookup
 unfoldable pub comesOut : Case → Bool
 comesOut (shows text c cell rule links) = isAnswer (lookupReply (wordsFor text) c) cell rule links
 comesOut (typesNothing text cell) =

@@ -1,5 +1,5 @@
-// The pairs of words that are definitions: what is found for a character, its alias walk, what refuses a definition. A count is
-// that of the pairs that count as definitions.
+// The pairs of words that are definitions: what is found for a character, its alias walk, what refuses a definition.
+// A count is that of the pairs that count as definitions.
 use basics::Maybe;
 use basics::Refusal;
 use definitions::Cell;
