@@ -60,11 +60,11 @@ fn with_line(t: Tally, line: &[u8]) -> Tally {
     }
 }
 
-// Says that the input fills the buffer, so that cases behind it would not have run.
+// Says that the input fills the buffer: what lies behind it was not read.
 fn write_full(length: usize) {
     io::write_all(STDOUT_FILENO, b"the input fills the buffer of ");
     io::print_decimal(STDOUT_FILENO, length as u64);
-    io::write_all(STDOUT_FILENO, b" bytes: cases behind it were not run\n");
+    io::write_all(STDOUT_FILENO, b" bytes: what lies behind it was not read\n");
 }
 
 fn run(file: &[u8]) {
