@@ -1,10 +1,12 @@
 -- What turns the facts of branches, calls and matches into the equations that a definition goes by, and what holds of a choice.
-use Prim.Native.Nat.{ℕ}
+use Prim.Native.Nat.{ℕ, zero, suc, _<_}
 use mathlib.Core.Path.{_≡_, refl, sym, _∙_}
 use mathlib.Core.Bool.{Bool, true, false, _&&_}
 use mathlib.Core.List.{List, map}
+use native.Mathlib.Omega.{arith}
+use lib.Dec.{eqb}
 use lib.ListN.{length, length-map}
-use borrow.Author.Tests.{lt-ltb, le-ltb, le-leb, lt-leb, eq-eqb, ne-eqb}
+use borrow.Author.Tests.{lt-ltb, le-ltb, le-leb, lt-leb, eq-eqb, ne-eqb, eqb-true, eqb-false}
 use Rattle.basics.specs.Choice.{pick, ifCharacter}
 use Rattle.basics.specs.declared.Maybe.{Maybe}
 use Rattle.basics.specs.declared.Maybe.the-variants.{Nothing, Character}
@@ -70,6 +72,18 @@ pub ruleset on-both = (and-holds, and-fails)
 pub both : (s t : Bool) → (s && t) ≡ true → (s ≡ true) × (t ≡ true)
 both true t q = (refl, q)
 both false t q = (cc, cc)
+
+-- a test of all numbers below one: where it computes to true, it holds of each
+abbrev pub allBelow : ℕ → (ℕ → Bool) → Bool
+allBelow zero f = true
+allBelow (suc m) f = f m && allBelow m f
+
+pub below : (m : ℕ) (f : ℕ → Bool) → allBelow m f ≡ true → (n : ℕ) → n < m → f n ≡ true
+below zero f e n h = absurd (omega arith)
+below (suc m) f e n h =
+    by-cases (eqb n m)
+    (λ p. rw (eqb-true n m p) (both (f m) (allBelow m f) e .0))
+    (λ p. below m f (both (f m) (allBelow m f) e .1) n (omega (arith, eqb-false n m p)))
 
 -- the length of an array of structs that is a field
 pub length-field : (X Y : Type 0) (f : X → Y) (l : List X) (n : ℕ) → length (map f l) ≡ n → length l ≡ n

@@ -1,4 +1,5 @@
 pub mod Choice
 pub mod Refusals
 pub mod Ascii
+pub mod Buffers
 pub mod Internal

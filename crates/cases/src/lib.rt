@@ -4,12 +4,18 @@ use answers::Text;
 use basics::Refusal;
 use lines::Compiled;
 use lines::TEXT_LIMIT;
+use listing::LISTING_LIMIT;
+use listing::Listed;
+use replies::UNWRITTEN;
 use table::PAIR_WORDS;
 use table::TABLE_WORDS;
 use unicode::ISO_8859_1;
 
 // Two words more than a table has.
 const WORDS: usize = TABLE_WORDS + 2;
+
+// Eight bytes more than a listing has.
+const LISTING: usize = LISTING_LIMIT + 8;
 
 // The editions of text tables: byte tables, and the present one.
 const BYTES: u32 = 1;
@@ -54,14 +60,45 @@ fn windows_answer(words: &[u32], question: &[u8]) -> Text {
     replies::windows_text(words, &numbers[0..n], &windows[0..k])
 }
 
-// A question to a table: a lookup, what a cell types, a page, or a page by windows.
+// What compiling a listing, the first `length` bytes, in the set of the table answers and leaves.
+fn again_answer(words: &[u32], bytes: &[u8], length: usize) -> Text {
+    if words.len() < TABLE_WORDS {
+        return answers::empty();
+    }
+    if bytes.len() < length {
+        return answers::empty();
+    }
+    let mut back = [7u32; WORDS];
+    let answer = compile(PRESENT, words[PAIR_WORDS], &bytes[0..length], &mut back);
+    let front = replies::counted_text(length, answer);
+    replies::push_back(front, words, &back, &bytes[length..])
+}
+
+fn listed_back(words: &[u32], bytes: &mut [u8]) -> Text {
+    let listed = listing::list_table(words, bytes);
+    match listed {
+        Listed::Refused(_, _) => replies::push_unwritten(replies::listed_text(listed), bytes),
+        Listed::Length(length) => again_answer(words, bytes, length),
+    }
+}
+
+// Listing into so many bytes, and compiling the listing.
+fn back_answer(words: &[u32], length: u32) -> Text {
+    let mut bytes = [UNWRITTEN; LISTING];
+    let n = length as usize % (LISTING + 1);
+    listed_back(words, &mut bytes[0..n])
+}
+
+// A question to a table: a lookup, what a cell types, a page, a page by windows, its listing, or that read back.
 fn table_answer(call: usize, words: &[u32], question: &[u8]) -> Text {
     let n = fields::number(question);
     match call {
         0 => replies::look_text(words, n),
         1 => replies::type_text(words, (n % 256) as u8),
         2 => page_answer(words, question),
-        _ => windows_answer(words, question),
+        3 => windows_answer(words, question),
+        4 => replies::list_text(words, n),
+        _ => back_answer(words, n),
     }
 }
 
@@ -188,32 +225,34 @@ fn charset_in(name: &[u8]) -> u32 {
     fields::number(named)
 }
 
-// The answer to a case by its fields. The kinds that ask a table stand in fours, in the order of `table_answer`.
+// The answer to a case by its fields. The kinds that ask a table stand in sixes, in the order of `table_answer`.
 fn answer_to(name: &[u8], text: &[u8], question: &[u8]) -> Text {
     let n = fields::number(question);
     let charset = charset_in(name);
     let kind = fields::place_of(
         fields::first(name, b' '),
-        b"show type page windows lent lent_type lent_page lent_windows \
-        short short_type short_page short_windows beyond beyond_type beyond_page beyond_windows \
+        b"show type page windows list back \
+        lent lent_type lent_page lent_windows lent_list lent_back \
+        short short_type short_page short_windows short_list short_back \
+        beyond beyond_type beyond_page beyond_windows beyond_list beyond_back \
         compile column left attributes attributes_column dots bytes row edition report",
     );
-    let call = kind % 4;
+    let call = kind % 6;
     match kind {
-        0 | 1 | 2 | 3 => table_case(charset, call, text, question),
-        4 | 5 | 6 | 7 => lent_case(charset, TABLE_WORDS, call, text, question),
-        8 | 9 | 10 | 11 => lent_case(charset, TABLE_WORDS - 1, call, text, question),
-        12 | 13 | 14 | 15 => lent_case(charset, WORDS, call, text, question),
-        16 => replies::compile_text(compiled(PRESENT, charset, text, 0)),
-        17 => replies::column_text(compiled(PRESENT, charset, text, n)),
-        18 => left_case(charset, text, n),
-        19 => replies::compile_text(compiled_attributes(text)),
-        20 => replies::column_text(compiled_attributes(text)),
-        21 => dots_case(text, n),
-        22 => replies::column_text(compiled(BYTES, charset, text, 0)),
-        23 => row_case(charset, text, n),
-        24 => any_edition_case(charset, text, question),
-        25 => report_case(fields::number(text), n),
+        0 | 1 | 2 | 3 | 4 | 5 => table_case(charset, call, text, question),
+        6 | 7 | 8 | 9 | 10 | 11 => lent_case(charset, TABLE_WORDS, call, text, question),
+        12 | 13 | 14 | 15 | 16 | 17 => lent_case(charset, TABLE_WORDS - 1, call, text, question),
+        18 | 19 | 20 | 21 | 22 | 23 => lent_case(charset, WORDS, call, text, question),
+        24 => replies::compile_text(compiled(PRESENT, charset, text, 0)),
+        25 => replies::column_text(compiled(PRESENT, charset, text, n)),
+        26 => left_case(charset, text, n),
+        27 => replies::compile_text(compiled_attributes(text)),
+        28 => replies::column_text(compiled_attributes(text)),
+        29 => dots_case(text, n),
+        30 => replies::column_text(compiled(BYTES, charset, text, 0)),
+        31 => row_case(charset, text, n),
+        32 => any_edition_case(charset, text, question),
+        33 => report_case(fields::number(text), n),
         _ => answers::text_of(b"unknown kind"),
     }
 }

@@ -9,13 +9,13 @@ use Rattle.basics.specs.Refusals.{Reply, answered, refused, fillingReply}
 use Rattle.basics.specs.declared.Filling.{Filling}
 use Rattle.basics.specs.declared.Maybe.{Maybe}
 use Rattle.basics.proofs.Tests.{either}
+use Rattle.basics.specs.Buffers.{over}
 use Rattle.lines.specs.Texts.{compiledReply}
 use Rattle.lines.specs.declared.Compiled.{Compiled}
 use Rattle.definitions.specs.declared.Definition.{Definition}
 use Rattle.definitions.specs.Definitions.{types, typedIn}
 use Rattle.table.specs.Check.{lentTable}
 use Rattle.table.proofs.Readback.{AllInRange, operand-small, lent-in-range}
-use Rattle.lookup.specs.Calls.{over}
 use Rattle.lookup.proofs.Buffers.{filledTo, filled-more, filled-all}
 use Rattle.typing.specs.declared.Entry.{Entry}
 use Rattle.typing.specs.Typing.{nothing, entriesBy, typingReply, typingEntries}

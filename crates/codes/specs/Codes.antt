@@ -6,9 +6,9 @@ use lib.Dec.{ltb}
 use Rattle.basics.specs.Choice.{pick, ifCharacter}
 use Rattle.basics.specs.Refusals.{Reply, answered, refused}
 use Rattle.basics.specs.declared.Maybe.{Maybe}
+use Rattle.basics.specs.Buffers.{over}
 use Rattle.lines.specs.Texts.{outcomeColumn}
 use Rattle.rules.specs.declared.Answer.{Answer}
-use Rattle.lookup.specs.Calls.{over}
 use Rattle.typing.specs.declared.Entry.{Entry}
 use Rattle.typing.specs.Typing.{typingReply, typingEntries, typedBy}
 use Rattle.attributes.specs.declared.Place.{Place}
@@ -40,6 +40,10 @@ lookupCode reply = codeOf answerCode 0 reply
 -- a call that fills buffers and has no value: 0
 abbrev pub fillingCode : Reply (Unit {0}) → ℕ
 fillingCode reply = codeOf (λ u. 0) 0 reply
+
+-- a call that answers a count or a length: that number
+abbrev pub countCode : Reply ℕ → ℕ
+countCode reply = codeOf (λ count. count) 0 reply
 
 -- typing: 0 for nothing, else the character + 1
 abbrev pub characterCode : Maybe → ℕ

@@ -12,9 +12,9 @@ ghost use mathlib.Core.List.{map};
 ghost use Prim.Native.Nat.{_≤_, min};
 ghost use lib.ListN.{length};
 ghost use Rattle.basics.specs.Refusals.{numberOf, fillingReply};
+ghost use Rattle.basics.specs.Buffers.{over};
 ghost use Rattle.definitions.specs.Effects.{definitionLimit};
 ghost use Rattle.lines.specs.Texts.{compiledReply, compiledColumn};
-ghost use Rattle.lookup.specs.Calls.{over};
 ghost use Rattle.codes.specs.Codes.{refusalCode, compileCode, answerCode, fillingCode, characterCode, cellCount, entryCode, cellsOf};
 ghost use Rattle.codes.specs.Internal.{EntriesFit};
 

@@ -11,6 +11,7 @@ use codes::put_cells;
 use codes::put_entries;
 use codes::refusal_code;
 use lines::Compiled;
+use listing::Listed;
 use lookup::Looked;
 use windows::Window;
 ghost use mathlib.Core.Path.{_≡_};
@@ -18,7 +19,8 @@ ghost use lib.ListN.{length};
 ghost use Rattle.editions.specs.Editions.{editionReply, editionColumn, editionWords};
 ghost use Rattle.lookup.specs.Calls.{lookupReply, pagePlan, Pages};
 ghost use Rattle.windows.specs.Windows.{PagesWindows};
-ghost use Rattle.codes.specs.Codes.{compileCode, lookupCode, fillingCode, typedCode, attributeCode, entriesReply, entriesAfter, cellsReply, cellsColumn, cellsAfter, byteCellsReply, byteCellsColumn, byteCellsAfter};
+ghost use Rattle.listing.specs.Listing.{listingPlan, listingReply, listingBytes};
+ghost use Rattle.codes.specs.Codes.{compileCode, countCode, lookupCode, fillingCode, typedCode, attributeCode, entriesReply, entriesAfter, cellsReply, cellsColumn, cellsAfter, byteCellsReply, byteCellsColumn, byteCellsAfter};
 
 // Compiles a text table of edition 2 into 2,050 words of `words`, or reads a byte table, edition 1, and leaves them, in a
 // local character set: the count of definitions or of byte lines, or the refusal with its line and column.
@@ -170,4 +172,16 @@ pub extern "C" fn heathdapple_byte_cells(set: u32, text: &[u8], cells: &mut [u8]
     let all = table.cells;
     put_bytes(all, cells);
     compile_code(answer)
+}
+
+// Lists a table as text, a line a definition, at the front of `bytes`: the length of the text, or the refusal with its place.
+#[no_mangle]
+pub extern "C" fn heathdapple_list(words: &[u32], bytes: &mut [u8]) -> u64
+    ensures code { λ r. ⌜ r ≡ countCode (listingReply (listingPlan (now (words .entry)) (length (now (bytes .entry))))) ⌝ }
+    ensures bytes { λ r. ⌜ now (bytes .exit) ≡ listingBytes (listingPlan (now (words .entry)) (length (now (bytes .entry)))) (now (bytes .entry)) ⌝ }
+{
+    match listing::list_table(words, bytes) {
+        Listed::Length(length) => length as u64,
+        Listed::Refused(refusal, place) => refusal_code(refusal, 0, place),
+    }
 }

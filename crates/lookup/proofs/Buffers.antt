@@ -6,7 +6,7 @@ use native.Mathlib.Omega.{arith}
 use native.Mathlib.Numerals.{add-one}
 use lib.ListN.{length, getD, take, drop, set, length-map}
 use lib.Seq.{drop-cons, take-suc, take-all, set-at, length-take-le}
-use Rattle.lookup.specs.Calls.{over}
+use Rattle.basics.specs.Buffers.{over}
 
 -- a buffer whose first i elements are filled
 abbrev pub filledTo : {A : Type 0} → (A → ℕ) → List A → ℕ → List ℕ → List ℕ

@@ -9,6 +9,7 @@ use lib.Seq.{drop-cons}
 use borrow.Author.Tests.{le-ltb, not-true, not-false}
 use Rattle.basics.specs.Choice.{pick}
 use Rattle.basics.specs.Refusals.{Reply, answered, refused, andThen}
+use Rattle.basics.specs.Buffers.{over}
 use Rattle.unicode.specs.Characters.{isScalar}
 use Rattle.definitions.specs.Definitions.{table}
 use Rattle.table.specs.declared.Checked.{Checked}
@@ -21,7 +22,7 @@ use Rattle.rules.specs.declared.LastCells.{LastCells}
 use Rattle.lookup.specs.declared.NoScalar.{NoScalar}
 use Rattle.lookup.specs.declared.NoScalar.the-variants.{Nowhere, At}
 use Rattle.rules.specs.Rules.{candidates, rulesFrom3, lookup}
-use Rattle.lookup.specs.Calls.{lookupReply, firstNoScalar, unlessAt, pagePlan, over, Pages}
+use Rattle.lookup.specs.Calls.{lookupReply, firstNoScalar, unlessAt, pagePlan, Pages}
 use Rattle.rules.specs.Internal.{lastCells, lookupBy}
 
 -- ---- the lookup call

@@ -2,11 +2,12 @@
 use Prim.Native.Nat.{ℕ, _+_, _≤_}
 use mathlib.Core.Path.{_≡_}
 use mathlib.Core.Bool.{_||_}
-use mathlib.Core.List.{List, [], _∷_, _++_, map}
-use lib.ListN.{length, drop}
+use mathlib.Core.List.{List, [], _∷_, map}
+use lib.ListN.{length}
 use lib.Dec.{ltb}
 use Rattle.basics.specs.Choice.{pick}
 use Rattle.basics.specs.Refusals.{numberOf, Reply, answered, refused, andThen}
+use Rattle.basics.specs.Buffers.{over}
 use Rattle.unicode.specs.Characters.{isScalar, isBraille, localOf}
 use Rattle.definitions.specs.declared.Definition.{Definition}
 use Rattle.definitions.specs.Definitions.{table, walk, aliases, WholeWalk}
@@ -60,10 +61,6 @@ pagePlan ws cs cells rules =
 -- its answer has no value
 abbrev pub pageReply : Reply (ℕ → Answer) → Reply (Unit {0})
 pageReply plan = andThen plan (λ look. answered tt)
-
--- new bytes at the front of a buffer; those past them stay
-abbrev pub over : List ℕ → List ℕ → List ℕ
-over new old = new ++ drop (length new) old
 
 -- the cell buffer and the rule buffer after the call, from what they held: a refusal writes nothing
 abbrev pub pageCells : Reply (ℕ → Answer) → List ℕ → List ℕ → List ℕ

@@ -12,10 +12,11 @@ ghost use mathlib.Core.List.{map};
 ghost use Prim.Native.Nat.{_*_, _≤_};
 ghost use lib.ListN.{length};
 ghost use Rattle.basics.specs.Refusals.{fillingReply};
+ghost use Rattle.basics.specs.Buffers.{over};
 ghost use Rattle.pairs.specs.Words.{charsetOf, tableOf};
 ghost use Rattle.table.specs.Check.{lentTable};
 ghost use Rattle.rules.specs.Internal.{lookupBy};
-ghost use Rattle.lookup.specs.Calls.{lookupReply, lookedReply, LentLinks, firstNoScalar, pagePlan, over, Pages};
+ghost use Rattle.lookup.specs.Calls.{lookupReply, lookedReply, LentLinks, firstNoScalar, pagePlan, Pages};
 
 // What the lookup call answers; a refusal with its place.
 pub enum Looked {

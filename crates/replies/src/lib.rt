@@ -4,9 +4,13 @@ use basics::Filling;
 use basics::Maybe;
 use basics::Refusal;
 use lines::Compiled;
+use listing::Listed;
 use lookup::Looked;
 use table::PAIR_WORDS;
 use table::TABLE_WORDS;
+
+// What a buffer for a listing holds before the call: a byte that no listing has.
+pub const UNWRITTEN: u8 = b'.';
 
 // What the program writes of an answer of a compile call, without its LF.
 pub fn compile_text(answer: Compiled) -> Text {
@@ -171,14 +175,121 @@ pub fn left_text(answer: Text, words: &[u32]) -> Text {
     push_change(answers::push_bytes(end, b" beyond"), &words[TABLE_WORDS..])
 }
 
-// Whether cells are all 255.
-pub fn push_filled(text: Text, cells: &[u8]) -> Text {
+// Whether all bytes have one value.
+fn all_bytes_are(bytes: &[u8], value: u8) -> bool {
     let mut i = 0;
-    while i < cells.len() {
-        if cells[i] != 255 {
-            return answers::push_bytes(text, b" cells other");
+    while i < bytes.len() {
+        if bytes[i] != value {
+            return false;
         }
         i += 1;
     }
-    answers::push_bytes(text, b" cells 255")
+    true
+}
+
+// Whether cells are all 255.
+pub fn push_filled(text: Text, cells: &[u8]) -> Text {
+    if all_bytes_are(cells, 255) {
+        return answers::push_bytes(text, b" cells 255");
+    }
+    answers::push_bytes(text, b" cells other")
+}
+
+// What a listing call answers.
+pub fn listed_text(answer: Listed) -> Text {
+    match answer {
+        Listed::Refused(refusal, place) => refusal_text(refusal, place),
+        Listed::Length(length) => {
+            answers::push_decimal(answers::text_of(b"length "), length as u64)
+        }
+    }
+}
+
+// The length of a listing, and how many definitions compiling it answers; only the refusal where that refuses.
+pub fn counted_text(length: usize, answer: Compiled) -> Text {
+    match answer {
+        Compiled::Accepted(count) => {
+            let front = answers::push_bytes(listed_text(Listed::Length(length)), b" count ");
+            answers::push_decimal(front, count as u64)
+        }
+        Compiled::Refused {
+            refusal: _,
+            line: _,
+            column: _,
+        } => compile_text(answer),
+    }
+}
+
+// A byte of a text, LF as the cases write it.
+fn push_text_byte(text: Text, b: u8) -> Text {
+    if b == b'\n' {
+        return answers::push_bytes(text, b"%0A");
+    }
+    answers::push_byte(text, b)
+}
+
+// The bytes of a text, behind a blank if there are any.
+fn push_lines(text: Text, bytes: &[u8]) -> Text {
+    if bytes.len() == 0 {
+        return text;
+    }
+    let mut all = answers::push_byte(text, b' ');
+    let mut i = 0;
+    while i < bytes.len() {
+        all = push_text_byte(all, bytes[i]);
+        i += 1;
+    }
+    all
+}
+
+fn buffer_text(words: &[u32], buffer: &mut [u8]) -> Text {
+    let answer = listing::list_table(words, buffer);
+    push_lines(listed_text(answer), buffer)
+}
+
+// What the listing call answers, and what it leaves in a buffer of so many bytes, 200 at most.
+pub fn list_text(words: &[u32], length: u32) -> Text {
+    let mut buffer = [UNWRITTEN; 200];
+    let n = (length % 201) as usize;
+    buffer_text(words, &mut buffer[0..n])
+}
+
+// Whether a buffer, or the part of it past a listing, is as it was.
+pub fn push_unwritten(text: Text, bytes: &[u8]) -> Text {
+    if all_bytes_are(bytes, UNWRITTEN) {
+        return answers::push_bytes(text, b" same");
+    }
+    answers::push_bytes(text, b" bytes other")
+}
+
+fn same_words(left: &[u32], right: &[u32]) -> bool {
+    if left.len() != right.len() {
+        return false;
+    }
+    let mut i = 0;
+    while i < left.len() {
+        if left[i] != right[i] {
+            return false;
+        }
+        i += 1;
+    }
+    true
+}
+
+// Whether a listing gives the words of the table back, in words that all held 7, and leaves those beyond and the bytes
+// past it.
+pub fn push_back(text: Text, words: &[u32], back: &[u32], past: &[u8]) -> Text {
+    if words.len() < TABLE_WORDS {
+        return text;
+    }
+    if back.len() < TABLE_WORDS {
+        return text;
+    }
+    if !same_words(&words[0..TABLE_WORDS], &back[0..TABLE_WORDS]) {
+        return answers::push_bytes(text, b" words other");
+    }
+    if !all_are(&back[TABLE_WORDS..], 7) {
+        return answers::push_bytes(text, b" beyond other");
+    }
+    push_unwritten(text, past)
 }

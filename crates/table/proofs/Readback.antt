@@ -41,13 +41,16 @@ abbrev pub AllInRange : List Definition → Type 0
 AllInRange [] = Unit
 AllInRange (d ∷ ds) = InRange d × AllInRange ds
 
+pub operand-below : (c : ℕ) → isOperand c ≡ true → c < 0x110000
+operand-below c h = go (ltb c 0xD800) refl (both (isScalar c) _ h .0)
+  where
+    go : (b : Bool) → ltb c 0xD800 ≡ b → (b || (leb 0xE000 c && ltb c 0x110000)) ≡ true → c < 0x110000
+    go true p e = omega (arith, ltb-true c 0xD800 p)
+    go false p e = ltb-true c 0x110000 (both (leb 0xE000 c) (ltb c 0x110000) e .1)
+
 -- it leaves the kind of a second word alone
 pub operand-small : (c : ℕ) → isOperand c ≡ true → c < kindUnit
-operand-small c h = go (ltb c 0xD800) refl (both (isScalar c) _ h .0)
-  where
-    go : (b : Bool) → ltb c 0xD800 ≡ b → (b || (leb 0xE000 c && ltb c 0x110000)) ≡ true → c < kindUnit
-    go true p e = omega (arith, ltb-true c 0xD800 p)
-    go false p e = omega (arith, ltb-true c 0x110000 (both (leb 0xE000 c) (ltb c 0x110000) e .1))
+operand-small c h = omega (arith, operand-below c h)
 
 -- ---- one meaning as a word
 
@@ -102,7 +105,7 @@ unfolding wordsOf
 words-length [] = refl
 words-length (d ∷ ds) = omega (arith, words-length ds)
 
-pairs-length : (ds : List Definition) → length ds ≤ definitionLimit → length (pairsOf ds) ≡ pairWords
+pub pairs-length : (ds : List Definition) → length ds ≤ definitionLimit → length (pairsOf ds) ≡ pairWords
 pairs-length ds h =
     omega (arith, length-append (wordsOf ds) (replicate (pairWords - 2 * length ds) 0), words-length ds, length-replicate {A = ℕ} (pairWords - 2 * length ds) 0)
 
@@ -293,7 +296,7 @@ lent ws n long e = go (checkFrom [] (take pairWords ws)) refl e
     go (FaultAt pair) p q = absurd (let z : _≡_ {A = ℕ} 0 1 = cc in omega arith)
 
 -- what holds of the pairs of a slice that passes the check holds of the table that it is
-lent-table : (P : List Definition → Type 0) (ws : List ℕ) (ds : List Definition) → ((n : ℕ) → Lent ws n → P (definitions n ws)) → lentTable ws ≡ answered ds → P ds
+pub lent-table : (P : List Definition → Type 0) (ws : List ℕ) (ds : List Definition) → ((n : ℕ) → Lent ws n → P (definitions n ws)) → lentTable ws ≡ answered ds → P ds
 unfolding lentTable
 lent-table P ws ds holds e =
     by-test (λ (r : Reply (List Definition)). r ≡ answered ds → P ds) (ltb (length ws) tableWords)

@@ -9,6 +9,7 @@ use lib.Seq.{length-take-le}
 use borrow.Author.Tests.{le-ltb}
 use Rattle.basics.proofs.Tests.{by-cases}
 use Rattle.basics.specs.Refusals.{Reply, answered, refused}
+use Rattle.basics.specs.Buffers.{over}
 use Rattle.unicode.specs.Characters.{isScalar}
 use Rattle.definitions.specs.declared.Definition.{Definition}
 use Rattle.definitions.specs.Definitions.{table}
@@ -18,7 +19,7 @@ use Rattle.lookup.specs.declared.NoScalar.{NoScalar}
 use Rattle.lookup.specs.declared.NoScalar.the-variants.{Nowhere, At}
 use Rattle.rules.specs.declared.Answer.{Answer}
 use Rattle.rules.specs.Rules.{lookup}
-use Rattle.lookup.specs.Calls.{firstNoScalar, over, pagePlan, pageReply, pageCells, pageRules}
+use Rattle.lookup.specs.Calls.{firstNoScalar, pagePlan, pageReply, pageCells, pageRules}
 use Rattle.windows.specs.declared.Window.{Window}
 use Rattle.windows.specs.Windows.{partOf, partsOf, widths, allWithin, bothHold, windowsPlan}
 use Rattle.windows.specs.OnePerWindow.{Call, called, pageCall, followedBy, onePerWindow, EqualsOnePerWindow}

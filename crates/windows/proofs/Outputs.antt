@@ -5,7 +5,7 @@ use mathlib.Core.List.{List, [], _++_, map, append-nil, append-assoc, map-append
 use native.Mathlib.Omega.{arith}
 use lib.ListN.{length, take, drop, length-append, length-drop, length-map, take-append-drop, drop-of-length-le}
 use lib.Seq.{length-take-le, take-append-seam, drop-append-seam, drop-drop}
-use Rattle.lookup.specs.Calls.{over}
+use Rattle.basics.specs.Buffers.{over}
 use Rattle.windows.specs.declared.Window.{Window}
 use Rattle.windows.specs.Windows.{partOf}
 use Rattle.windows.specs.Internal.{overAt}

@@ -8,13 +8,14 @@ use Rattle.basics.specs.Choice.{pick}
 use Rattle.basics.specs.declared.Refusal.the-variants.{ShortSlice, NotTable, NotScalar, BeyondPage}
 use Rattle.basics.specs.declared.Filling.{Filling}
 use Rattle.basics.specs.declared.Filling.the-variants as F
+use Rattle.basics.specs.Buffers.{over}
 use Rattle.table.specs.declared.Checked.{Checked}
 use Rattle.table.specs.declared.Checked.the-variants.{Sound, FaultAt}
 use Rattle.pairs.specs.Words.{tableWords, charsetOf, tableOf}
 use Rattle.table.specs.Check.{checkOf}
 use Rattle.lookup.specs.declared.NoScalar as No
 use Rattle.lookup.specs.declared.NoScalar.the-variants.{Nowhere, At}
-use Rattle.lookup.specs.Calls.{firstNoScalar, over}
+use Rattle.lookup.specs.Calls.{firstNoScalar}
 use Rattle.rules.specs.Internal.{lastCells, lookupBy}
 use Rattle.windows.specs.declared.Window.{Window}
 use Rattle.windows.specs.declared.Prepared.{Prepared}
