@@ -89,3 +89,7 @@ pub fn typed(words: &[u32], cell: u8) -> Result<Option<u32>, Refusal> {
 pub fn entries(words: &[u32], entries: &mut [u32]) -> Result<(), Refusal> {
     reference::entries_by(words, entries, |words| Ok(check(words)?.1))
 }
+
+pub fn list(words: &[u32], bytes: &mut [u8]) -> Result<usize, Refusal> {
+    reference::list_by(words, bytes, |words| Ok(check(words)?.1))
+}

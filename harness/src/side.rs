@@ -19,6 +19,7 @@ pub struct Side {
     pub windows: Windows,
     pub typed: fn(&[u32], u8) -> Result<Option<u32>, Refusal>,
     pub entries: fn(&[u32], &mut [u32]) -> Result<(), Refusal>,
+    pub list: fn(&[u32], &mut [u8]) -> Result<usize, Refusal>,
     pub attribute_cell: fn(&[u8], u8) -> Result<u8, Refusal>,
     pub attribute_cells: fn(&[u8], &mut [u8]) -> Result<u32, Refusal>,
     pub byte_cells: ByteCells,
@@ -57,6 +58,7 @@ pub const LIBRARY: Side = Side {
     windows: heathdapple::windows,
     typed: heathdapple::typed,
     entries: heathdapple::entries,
+    list: heathdapple::list,
     attribute_cell: heathdapple::attribute_cell,
     attribute_cells: heathdapple::attribute_cells,
     byte_cells: heathdapple::byte_cells,
@@ -70,6 +72,7 @@ pub const REFERENCE: Side = Side {
     windows: reference::windows,
     typed: reference::typed,
     entries: reference::entries,
+    list: reference::list,
     attribute_cell: reference::attribute_cell,
     attribute_cells: reference::attribute_cells,
     byte_cells: reference::byte_cells,
@@ -84,6 +87,7 @@ pub const HASHED: Side = Side {
     windows: hashed::windows,
     typed: hashed::typed,
     entries: hashed::entries,
+    list: hashed::list,
     ..REFERENCE
 };
 

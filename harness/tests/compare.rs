@@ -97,9 +97,9 @@ const BEFORE_LAST: [&str; 5] = ["", "  ", "ifNotCell 1 ", "ifNotGlyph é ifNotGl
 const LINE_ENDS: [&str; 8] = ["", "\n", "\r", "\r\n", "\r\r\n", "  \n", "\t\r\n", " \r\r\n"];
 
 /// The compile call counts as three: by edition 2, by edition 1 and by any other.
-const CALLS: [&str; 11] = [
-    "compile 2", "compile 1", "compile n", "byte_cells", "look_up", "page", "windows", "typed", "entries", "attribute",
-    "attributes",
+const CALLS: [&str; 12] = [
+    "compile 2", "compile 1", "compile n", "byte_cells", "look_up", "page", "windows", "typed", "entries", "list",
+    "attribute", "attributes",
 ];
 const COMPILE: usize = 0;
 const COMPILE_BYTES: usize = 1;
@@ -110,8 +110,9 @@ const PAGE: usize = 5;
 const WINDOWS: usize = 6;
 const TYPED: usize = 7;
 const ENTRIES: usize = 8;
-const ATTRIBUTE_CELL: usize = 9;
-const ATTRIBUTE_CELLS: usize = 10;
+const LIST: usize = 9;
+const ATTRIBUTE_CELL: usize = 10;
+const ATTRIBUTE_CELLS: usize = 11;
 
 /// Windows of which every two are put together, so also one and none: starts and widths of 0 to 4, and sums of 2^64.
 const SMALL_WINDOWS: usize = 28;
@@ -502,6 +503,66 @@ fn lent_meet(words: &[u32], refusal: Option<Refusal>) -> [(&'static str, bool); 
     ]
 }
 
+/// The pairs of a lent slice, or those before its first pair at fault.
+fn sound_pairs(words: &[u32]) -> Pairs<'_> {
+    match reference::check(words) {
+        Ok((pairs, _)) => pairs,
+        Err(Refusal { number: 15, place, .. }) => {
+            let Pairs(pairs) = pairs_of(words);
+            Pairs(&pairs[..pairs.len().min(2 * place as usize)])
+        }
+        Err(_) => Pairs(&[]),
+    }
+}
+
+/// What a list call may meet: how it ends, and what an accepted table has in it.
+const LISTS_MEET: usize = 26;
+
+/// `needed` is the length of the text of the sound pairs.
+fn lists_meet(
+    words: &[u32],
+    buffer: usize,
+    needed: usize,
+    answer: Result<usize, Refusal>,
+) -> [(&'static str, bool); LISTS_MEET] {
+    let (number, place) = answer.map_or_else(|refusal| (refusal.number, refusal.place as usize), |_| (0, 0));
+    let short_table = number == 2 && words.len() < WORDS;
+    let short = number == 2 && !short_table;
+    let accepted = number == 0;
+    let Pairs(pairs) = if accepted { pairs_of(words) } else { Pairs(&[]) };
+    let some =
+        |holds: &dyn Fn(Option<Meaning>) -> bool| pairs.chunks_exact(2).any(|pair| holds(reference::meaning(pair[1])));
+    let digits = |count| pairs.iter().step_by(2).any(|character| character.checked_ilog(16).unwrap_or(0) + 1 == count);
+    [
+        ("refusal 2 for the table", short_table),
+        ("  an empty buffer", short_table && buffer == 0),
+        ("refusal 15", number == 15),
+        ("  an empty buffer", number == 15 && buffer == 0),
+        ("  a buffer short for the pairs before it", number == 15 && buffer < needed),
+        ("    at pair 1,024", number == 15 && buffer < needed && place == PAIRS),
+        ("refusal 2 for the buffer", short),
+        ("  an empty buffer", short && buffer == 0),
+        ("  by one byte", short && buffer + 1 == needed),
+        ("accepted", accepted),
+        ("  a buffer of just the length", answer == Ok(buffer)),
+        ("  a longer buffer", answer.is_ok_and(|length| length < buffer)),
+        ("  no definition", answer == Ok(0)),
+        ("    an empty buffer", answer == Ok(0) && buffer == 0),
+        ("  1,024 definitions", pairs.len() == SET_WORD),
+        ("  char", some(&|meaning| matches!(meaning, Some(Meaning::Typed(_))))),
+        ("  glyph", some(&|meaning| matches!(meaning, Some(Meaning::Shown(_))))),
+        ("  alias", some(&|meaning| matches!(meaning, Some(Meaning::Alias(_))))),
+        ("  no dots", some(&|meaning| matches!(meaning, Some(Meaning::Typed(0) | Meaning::Shown(0))))),
+        ("  all dots", some(&|meaning| matches!(meaning, Some(Meaning::Typed(255) | Meaning::Shown(255))))),
+        ("  a character of 1 hex digit", digits(1)),
+        ("  a character of 2", digits(2)),
+        ("  a character of 3", digits(3)),
+        ("  a character of 4", digits(4)),
+        ("  a character of 5", digits(5)),
+        ("  a character of 6", digits(6)),
+    ]
+}
+
 /// What the lookup of a character on a table and on a grown one may meet.
 const GROWTH_MEETS: usize = 6;
 
@@ -608,11 +669,14 @@ struct Run {
     sets_met: [[[(&'static str, u64); SETS_MEET]; 2]; WITH_COLUMN.len()],
     lent_met: [(&'static str, u64); LENT_MEET],
     walks_met: [(&'static str, u64); WALKS_MEET],
+    lists_met: [(&'static str, u64); LISTS_MEET],
     /// By set.
     rows_met: [[(&'static str, u64); ROWS_MEET]; 2],
     growth_met: [[(&'static str, u64); GROWTH_MEETS]; 2],
     /// Page calls beside accepted windows calls.
     pages_beside: u64,
+    /// Texts of accepted list calls.
+    read_back: u64,
     rules: [u64; 32],
     links: u32,
     texts: Share,
@@ -1004,6 +1068,40 @@ impl Run {
         );
     }
 
+    /// A lent slice as text in a buffer of that length; an accepted text is read back. `needed` is as for what is met.
+    fn list_into(&mut self, words: &[u32], length: usize, needed: usize) {
+        let before = self.random_bytes(length + 2 * GUARD);
+        let call = |side: &Side, bytes: &mut [u8]| (side.list)(words, bytes);
+        let (answer, bytes) = self.filling(LIST, &before, call, |_| Self::table_shown(words));
+        self.tally_lent(words, answer);
+        count_met(&mut self.lists_met, lists_meet(words, length, needed, answer));
+        if let Ok(length) = answer {
+            self.read_back(words, &bytes[..length]);
+        }
+    }
+
+    /// A lent slice as text in buffers of several lengths around what it needs.
+    fn list(&mut self, words: &[u32]) {
+        let needed = reference::listing(sound_pairs(words)).len();
+        let [less, more] = [self.random.below(needed + 1), self.random.between(1, 40)];
+        for length in BTreeSet::from([0, less, needed.saturating_sub(1), needed, needed + more]) {
+            self.list_into(words, length, needed);
+        }
+    }
+
+    /// The text of a table compiled in its own set: the same words and their count.
+    fn read_back(&mut self, words: &[u32], text: &[u8]) {
+        self.read_back += 1;
+        let length = WORDS + self.random.between(1, 9);
+        let set = Set::new(words[SET_WORD]).expect("the set of a table");
+        let (read, count) = self.compile(set, text, length);
+        if count != Some(pairs_of(words).0.len() / 2) || read[..WORDS] != words[..WORDS] {
+            self.differ(&REFERENCE, LIST, Self::table_shown(words), Self::table_shown(&read[..WORDS]), || {
+                format!("read back by compile, which counts {count:?}: \"{}\"", shown(text))
+            });
+        }
+    }
+
     /// Whether every side fills the buffers as expected, and answers so.
     fn fill_as(
         &mut self,
@@ -1137,6 +1235,7 @@ impl Run {
                 self.any_entries(words);
             }
         }
+        self.list(words);
     }
 
     fn length_of_slice(&mut self) -> usize {
@@ -1211,6 +1310,7 @@ impl Run {
             self.typed(&words, cell);
             self.any_entries(&words);
         }
+        self.list(&words);
         if self.random.percent(4) {
             let length = self.short_length();
             self.lent(&words[..length], &text.alphabet);
@@ -1260,6 +1360,7 @@ impl Run {
         if before.iter().zip(&after).any(|(before, after)| *before != 0 && before != after) {
             self.differ(&side, ENTRIES, before, after, || format!("growth, {}", input()));
         }
+        self.list(&grown_words);
     }
 
     /// Two lines in both sets and editions, and the characters of a page by them.
@@ -1273,6 +1374,7 @@ impl Run {
                 }
                 self.page(&words, page, page.len(), page.len());
                 self.entries(&words, CELLS);
+                self.list(&words);
             }
         }
     }
@@ -1288,7 +1390,9 @@ impl Run {
             }
         }
         for pair in [[character, 2 << 24 | 3], ['z' as u32, 3 << 24 | character]] {
-            let _ = self.look_up(&table_of(&pair, [set.number(), 0]), 'z' as u32);
+            let words = table_of(&pair, [set.number(), 0]);
+            let _ = self.look_up(&words, 'z' as u32);
+            self.list(&words);
         }
     }
 
@@ -1303,6 +1407,7 @@ impl Run {
             self.entries(words, CELLS);
             self.page(words, &[0xF0BE, 0xD800], 2, 2);
             self.windows(words, &[0xF0A4, 0x20AC, 0xA4], &[Window { start: 0, width: 3 }], [3, 3]);
+            self.list(words);
         }
     }
 
@@ -1374,9 +1479,11 @@ fn main() {
         sets_met: [[[("", 0); SETS_MEET]; 2]; WITH_COLUMN.len()],
         lent_met: [("", 0); LENT_MEET],
         walks_met: [("", 0); WALKS_MEET],
+        lists_met: [("", 0); LISTS_MEET],
         rows_met: [[("", 0); ROWS_MEET]; 2],
         growth_met: [[("", 0); GROWTH_MEETS]; 2],
         pages_beside: 0,
+        read_back: 0,
         rules: [0; 32],
         links: 0,
         texts: Share::default(),
@@ -1433,6 +1540,7 @@ fn main() {
             &[Window { start: 2, width: 1 }, Window { start: 0, width: 3 }],
             [4, 4],
         );
+        run.list(&words);
         run.compile(set, format!("{text}alias \\u0400 a\n").as_bytes(), WORDS);
     });
     part("tables", 6, TABLES, &|run, case| {
@@ -1622,7 +1730,10 @@ fn main() {
         for count in [PAIRS - 1, PAIRS] {
             let pairs: String = (0..count).map(|k| format!("glyph \\u{:04X} 1\n", 0x4000 + k)).collect();
             for set in Set::ALL {
-                run.compile(set, format!("{pairs}{before}{last}").as_bytes(), WORDS);
+                let (words, count) = run.compile(set, format!("{pairs}{before}{last}").as_bytes(), WORDS);
+                if count.is_some() {
+                    run.list(&words);
+                }
             }
         }
     });
@@ -1647,6 +1758,17 @@ fn main() {
                 run.last_words(pairs, [set, zero]);
                 run.last_words(pairs, [zero, set]);
             }
+        }
+    });
+    part("any line", 26, 3 * 256, &|run, case| {
+        // Each kind with each cell, and as many aliases, in every buffer up to one that is too long.
+        let (kind, number) = (1 + case as u32 / 256, case as u32 % 256);
+        let number = if kind == 3 { generate::any_scalar(&mut run.random) } else { number };
+        let set = run.any_set().number();
+        let words = table_of(&[generate::any_scalar(&mut run.random), kind << 24 | number], [set, 0]);
+        let needed = reference::listing(sound_pairs(&words)).len();
+        for length in 0..=needed + 2 {
+            run.list_into(&words, length, needed);
         }
     });
     part("growth", 22, GROWING_TEXTS, &|run, _| {
@@ -1720,6 +1842,8 @@ fn main() {
     };
     println!("windows calls: {}, {} page calls beside those accepted", run.calls[WINDOWS], run.pages_beside);
     print_met("windows call", &run.windows_met);
+    println!("list calls: {}, {} texts read back", run.calls[LIST], run.read_back);
+    print_met("list call", &run.lists_met);
     println!("compile calls by edition 1: {}", run.calls[COMPILE_BYTES]);
     print_met("compile call by edition 1", &run.bytes_met);
     println!("calls on lent tables, their length, last words and rows:");

@@ -1,8 +1,9 @@
-//! The worked examples and edges of document 01, the blocks, windows, columns, byte tables, character sets and aliases into
-//! the braille row of document 02 and the settled readings, with the answers written out, on every side.
+//! The worked examples and edges of document 01, the blocks, windows, columns, byte tables, character sets, aliases
+//! into the braille row and listings of document 02 and the settled readings, with the answers written out, on every
+//! side.
 
 use harness::reference::{
-    self, Place, Refusal, Shown, Window, BYTE_EDITION, ISO_8859_1, ISO_8859_15, TEXT_EDITION, WORDS,
+    self, Place, Refusal, Shown, Window, BYTE_EDITION, ISO_8859_1, ISO_8859_15, LISTING_BYTES, TEXT_EDITION, WORDS,
 };
 use harness::side::SIDES;
 use std::fmt::Debug;
@@ -1066,6 +1067,7 @@ fn lent_tables() {
             assert_eq!((side.look_up)(&words, 0xD800).map_err(pair), fault.map(|()| unreachable!()), "{}", side.name);
             assert_eq!((side.typed)(&words, 0).map_err(pair), fault.map(|()| unreachable!()), "{}", side.name);
         }
+        list_refused(&words, (15, place));
     }
 }
 
@@ -2198,6 +2200,7 @@ fn last_words_of_a_table() {
             assert_eq!(got, Err(refusal), "{} {last:X?}", side.name);
             assert_eq!((cells, rules, entries), ([5; 2], [6; 2], [7; 256]), "{} {last:X?}", side.name);
         }
+        list_refused(words, (number, place));
     };
     let sound: [&[[u32; 2]]; 3] = [&[], &[[0x20AC, 0x0100_0001]], &[[0x20AC, 0x0300_00A4], [0xA4, 0x0200_0002]]];
     for pairs in sound {
@@ -2572,6 +2575,7 @@ fn rows_of_lent_tables() {
                 assert_eq!((got, cells, rules), (Err((15, place)), [5; 2], [6; 2]), "{}", input());
                 assert_eq!((side.entries)(&words, &mut [0; 256]).map_err(pair), Err((15, place)), "{}", input());
             }
+            list_refused(&words, (15, place));
         }
     };
     let sound = |pairs: &[[u32; 2]], character: u32, shown: Shown| {
@@ -2613,4 +2617,127 @@ fn rows_of_lent_tables() {
         words[1] = 0x0300_2841;
         assert_eq!((side.look_up)(&words, 0x61).map_err(pair), Err((15, 1024)), "{}", side.name);
     }
+}
+
+/// The listing of a table in buffers of several lengths, which hold a pattern: a refusal leaves all of it, an answer
+/// what is past the text. The text read back in the table's set is the same table.
+fn lists(words: &[u32], listing: &str) {
+    let (length, lines) = (listing.len(), listing.lines().count());
+    for side in SIDES {
+        for buffer in [0, length / 2, length.saturating_sub(1), length, length + 1, length + 300] {
+            let mut bytes = vec![0xA5; buffer];
+            let mut expected = bytes.clone();
+            let answer = match expected.get_mut(..length) {
+                Some(front) => {
+                    front.copy_from_slice(listing.as_bytes());
+                    Ok(length)
+                }
+                None => Err((2, 0)),
+            };
+            let got = (side.list)(words, &mut bytes).map_err(pair);
+            assert_eq!(got, answer, "{}: {listing:?} in {buffer}", side.name);
+            assert_eq!(String::from_utf8_lossy(&bytes), String::from_utf8_lossy(&expected), "{}", side.name);
+        }
+        let mut read = vec![0xA5A5_A5A5; 2053];
+        let count = (side.compile)(TEXT_EDITION, words[2048], listing.as_bytes(), &mut read);
+        assert_eq!(count, Ok(lines as u32), "{}: {listing:?}", side.name);
+        assert_eq!((&read[..2050], &read[2050..]), (&words[..2050], &[0xA5A5_A5A5; 3][..]), "{}", side.name);
+    }
+}
+
+/// The same for the table of a text, in every set.
+fn lists_text(text: &str, listing: &str) {
+    for set in SETS {
+        lists(&compiled_in(set, text.as_bytes()), listing);
+    }
+}
+
+fn list_refused(words: &[u32], refusal: (u32, u32)) {
+    for side in SIDES {
+        for length in [0, 1, 28, 300] {
+            let mut bytes = vec![0xA5; length];
+            let got = (side.list)(words, &mut bytes).map_err(pair);
+            assert_eq!((got, bytes), (Err(refusal), vec![0xA5; length]), "{}", side.name);
+        }
+    }
+}
+
+#[test]
+fn listings() {
+    lists_text("", "");
+    lists_text("# a\n\nifGlyph a char b 1\nifGlyph a\nchar b 1\nendIf", "");
+    lists_text(
+        SMALL,
+        "char \\U00000061 1\n\
+         char \\U00000062 12\n\
+         glyph \\U00000041 17\n\
+         alias \\U000000e4 \\U00000061\n\
+         alias \\U000003b1 \\U000000e4\n\
+         char \\U0000003f 1456\n",
+    );
+    // A byte is listed as the glyph of its character, and a definition without its conditions.
+    lists_text(" byte a 1 # x\r\nifNotCell 1\nifGlyph a byte b 2\nendIf", "glyph \\U00000061 1\nglyph \\U00000062 2\n");
+    // Dots rise, however they were written.
+    lists_text("char a 0\nglyph b 0\nchar c ()\n", "char \\U00000061 0\nglyph \\U00000062 0\nchar \\U00000063 0\n");
+    lists_text("char a (8 7654\t321)\nglyph b 12345678", "char \\U00000061 12345678\nglyph \\U00000062 12345678\n");
+    lists_text("char a 81\nglyph b (7 2)", "char \\U00000061 18\nglyph \\U00000062 27\n");
+    // One to six digits of a number, and what has a meaning in a text.
+    lists_text(
+        "char \\x00 1\nchar \\n 1\nchar \\s 1\nchar # 1\nchar \\\\ 1\n\
+         char \\u0ABC 1\nchar \\uFFFF 1\nchar \\U000DEF01 1\nalias \\U0010FFFF \\U0010FFFE",
+        "char \\U00000000 1\n\
+         char \\U0000000a 1\n\
+         char \\U00000020 1\n\
+         char \\U00000023 1\n\
+         char \\U0000005c 1\n\
+         char \\U00000abc 1\n\
+         char \\U0000ffff 1\n\
+         char \\U000def01 1\n\
+         alias \\U0010ffff \\U0010fffe\n",
+    );
+    // A target of the braille row is itself; a private-row operand is its local character.
+    lists_text("alias a \\u28FF\nalias b ⠀", "alias \\U00000061 \\U000028ff\nalias \\U00000062 \\U00002800\n");
+    let text = b"char \\uF0A4 1\nalias a \\uF0BE\nbyte \\xA6 2\n";
+    let [first, second] = SETS.map(|set| compiled_in(set, text));
+    lists(&first, "char \\U000000a4 1\nalias \\U00000061 \\U000000be\nglyph \\U000000a6 2\n");
+    lists(&second, "char \\U000020ac 1\nalias \\U00000061 \\U00000178\nglyph \\U00000160 2\n");
+    // The longest.
+    let longest: String = (0..1024).map(|k| format!("alias \\U{:08x} \\U0010ffff\n", 0x10_0000 + k)).collect();
+    assert_eq!(longest.len(), LISTING_BYTES);
+    lists_text(&longest, &longest);
+}
+
+#[test]
+fn every_cell_listed() {
+    for cell in 0..=255u32 {
+        let dots: String = ('1'..='8').filter(|dot| cell >> (*dot as u32 - '1' as u32) & 1 == 1).collect();
+        let dots = if cell == 0 { "0" } else { &dots };
+        let mut words = [char_pair('a', cell), glyph_pair('b', cell)].concat();
+        words.resize(2048, 0);
+        for set in SETS {
+            let words = [&words[..], &[set, 0, 9]].concat();
+            lists(&words, &format!("char \\U00000061 {dots}\nglyph \\U00000062 {dots}\n"));
+        }
+    }
+}
+
+#[test]
+fn listings_refused() {
+    let mut words = compiled(SMALL.as_bytes());
+    for length in [0, 1, 2047, 2048, 2049] {
+        list_refused(&words[..length], (2, 0));
+    }
+    // Words beyond the table are not looked at.
+    words.extend([1, 2, 3]);
+    words[4..2048].fill(0);
+    lists(&words, "char \\U00000061 1\nchar \\U00000062 12\n");
+    // A table at fault before a buffer that is too short, also where the fault is behind all lines.
+    words[2047] = 1;
+    list_refused(&words, (15, 1023));
+    words[2047] = 0;
+    words[2049] = 1;
+    list_refused(&words, (15, 1024));
+    words[2] = 0x61;
+    list_refused(&words, (15, 1));
+    list_refused(&words[..2049], (2, 0));
 }

@@ -47,6 +47,10 @@ const DEFINITIONS: u32 = 1024;
 /// The words of a compiled table: two for each of 1,024 definitions, its local character set, and zero.
 pub const TABLE_WORDS: usize = 2050;
 
+/// The most bytes of a listing, so the length of a buffer that [`list`] never finds too short: a line has at most 28
+/// with its LF, those of an alias, and a table at most 1,024 definitions.
+pub const LISTING_BYTES: usize = 28_672;
+
 /// The cells of eight dots, and the bytes: the least length for [`entries`], [`attribute_cells`] and [`byte_cells`].
 pub const CELLS: usize = 256;
 
@@ -190,6 +194,30 @@ pub fn typed(words: &[u32], cell: u8) -> Result<Option<u32>, Refusal> {
 /// Elements past them stay. A refusal writes nothing.
 pub fn entries(words: &[u32], entries: &mut [u32]) -> Result<(), Refusal> {
     value(library::entries(words, entries), 0).map(drop)
+}
+
+/// Lists a compiled table as text, one line a definition, in order, at the front of the bytes; answers its length.
+///
+/// A line is `char`, `glyph` or `alias`, a blank, the character, a blank, and the dots, rising or `0` for none, or the
+/// target of the alias. Characters are `\U` with eight lower-case hex digits. [`compile`] by [`TEXT_EDITION`] in the
+/// table's own set makes the same words of the text.
+///
+/// Bytes past it stay. A refusal writes nothing: 2 for too few words, 15 for words that are no table, then 2 for bytes
+/// that do not hold the text; [`LISTING_BYTES`] always do.
+///
+/// ```
+/// use heathdapple::{list, Table};
+///
+/// let table = Table::compile(b"byte a (21)\nalias \\u00E4 \\uF061\n")?;
+/// let mut bytes = [b'.'; 50];
+/// assert_eq!(list(table.words(), &mut bytes), Ok(48));
+/// assert_eq!(&bytes, b"glyph \\U00000061 12\nalias \\U000000e4 \\U00000061\n..");
+/// assert_eq!(list(table.words(), &mut bytes[..47]).unwrap_err().number, 2);
+/// # Ok::<(), heathdapple::Refusal>(())
+/// ```
+pub fn list(words: &[u32], bytes: &mut [u8]) -> Result<usize, Refusal> {
+    let most = bytes.len().min(LISTING_BYTES);
+    Ok(value(library::list(words, bytes), most as u32)? as usize)
 }
 
 /// The cell of a VGA attribute byte by an attributes table's text, or the refusal of that text with its line and column.
@@ -367,6 +395,37 @@ mod tests {
         assert_eq!(windows(&words[1..], &page, &list, &mut [], &mut []), refused(2, 0));
         words[3] = 5;
         assert_eq!(windows(&words, &[], &list, &mut [], &mut []), refused(15, 1));
+    }
+
+    #[test]
+    fn listings() {
+        let refused = |number, place| Err(Refusal { number, place, column: 0 });
+        let mut words = [7; TABLE_WORDS];
+        let text = "char a 0\nglyph \\U0010FFFF (87654321)\nalias é \\uF0A4\n";
+        let listing = "char \\U00000061 0\nglyph \\U0010ffff 12345678\nalias \\U000000e9 \\U000020ac\n";
+        assert_eq!(compile(TEXT_EDITION, ISO_8859_15, text.as_bytes(), &mut words), Ok(3));
+        let length = listing.len();
+        for past in [0, 1, LISTING_BYTES] {
+            let mut bytes = vec![9; length + past];
+            assert_eq!(list(&words, &mut bytes), Ok(length));
+            assert_eq!((&bytes[..length], &bytes[length..]), (listing.as_bytes(), vec![9; past].as_slice()));
+        }
+        let mut read = [7; TABLE_WORDS + 1];
+        assert_eq!(compile(TEXT_EDITION, ISO_8859_15, listing.as_bytes(), &mut read), Ok(3));
+        assert_eq!((&read[..TABLE_WORDS], read[TABLE_WORDS]), (words.as_slice(), 7));
+        let mut bytes = vec![9; length - 1];
+        assert_eq!(list(&words, &mut bytes), refused(2, 0));
+        assert_eq!(list(&words, &mut []), refused(2, 0));
+        assert_eq!(list(&words[1..], &mut bytes), refused(2, 0));
+        assert_eq!(list(&[], &mut []), refused(2, 0));
+        words[4] = 0x61;
+        assert_eq!(list(&words, &mut bytes), refused(15, 2));
+        assert_eq!(list(&words, &mut []), refused(15, 2));
+        assert_eq!(list(&[0; TABLE_WORDS], &mut bytes), refused(15, 1024));
+        assert_eq!(bytes, vec![9; length - 1]);
+        assert_eq!(compile(TEXT_EDITION, ISO_8859_1, b"", &mut words), Ok(0));
+        assert_eq!((list(&words, &mut []), list(&words, &mut bytes)), (Ok(0), Ok(0)));
+        assert_eq!(bytes, vec![9; length - 1]);
     }
 
     #[test]

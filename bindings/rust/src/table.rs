@@ -1,9 +1,9 @@
-use crate::{Refusal, Shown, Window, CELLS, ISO_8859_1, TABLE_WORDS, TEXT_EDITION};
+use crate::{Refusal, Shown, Window, CELLS, ISO_8859_1, LISTING_BYTES, TABLE_WORDS, TEXT_EDITION};
 
 /// A compiled text table that owns its words.
 ///
 /// The words are a table since compiling accepted them and nothing writes them after; the calls still hand on what the
-/// library answers.
+/// library answers, but for [`Table::list`], which for a table has no refusal.
 #[derive(Clone, Debug, PartialEq, Eq)]
 pub struct Table {
     words: Box<[u32]>,
@@ -80,12 +80,30 @@ impl Table {
         crate::entries(&self.words, &mut entries)?;
         Ok(entries.map(|entry: u32| entry.checked_sub(1).and_then(char::from_u32)))
     }
+
+    /// Its definitions as text, one line each; see [`crate::list`]. Compiled in the same set it is an equal table.
+    ///
+    /// ```
+    /// use heathdapple::Table;
+    ///
+    /// let table = Table::compile(b"char a (21) # typed\n\nalias \\u00E4 a\n")?;
+    /// assert_eq!(table.list(), "char \\U00000061 12\nalias \\U000000e4 \\U00000061\n");
+    /// assert_eq!(Table::compile(table.list().as_bytes())?, table);
+    /// # Ok::<(), heathdapple::Refusal>(())
+    /// ```
+    pub fn list(&self) -> String {
+        let mut bytes = vec![0; LISTING_BYTES];
+        // Refused are only words that are no table and bytes that are too few, and these are neither.
+        let length = crate::list(&self.words, &mut bytes).expect("a table is listed");
+        bytes.truncate(length);
+        String::from_utf8(bytes).expect("a listing is ASCII")
+    }
 }
 
 #[cfg(test)]
 mod tests {
     use super::Table;
-    use crate::{Refusal, Shown, Window, ISO_8859_1, ISO_8859_15};
+    use crate::{Refusal, Shown, Window, ISO_8859_1, ISO_8859_15, LISTING_BYTES};
 
     #[test]
     fn owned() {
@@ -123,5 +141,21 @@ mod tests {
         assert_eq!(table.look_up('Ÿ'), Ok(Shown { cell: 1, rule: 3, links: 0 }));
         assert_eq!(table.look_up('¾'), Ok(Shown { cell: 255, rule: 9, links: 0 }));
         assert_eq!(table.look_up('\u{F0BE}'), Ok(Shown { cell: 1, rule: 19, links: 0 }));
+    }
+
+    #[test]
+    fn listings() {
+        let longest: String = (0..1024).map(|k| format!("alias \\U{:08x} \\U0010ffff\n", 0x10_0000 + k)).collect();
+        assert_eq!(longest.len(), LISTING_BYTES);
+        for (text, listing) in [
+            ("# none\n", ""),
+            ("byte \\xA4 1\n", "glyph \\U000020ac 1\n"),
+            ("ifNotGlyph a\nalias \\uF0BE ⠁\nendIf", "alias \\U00000178 \\U00002801\n"),
+            (&longest, &longest),
+        ] {
+            let table = Table::compile_in(ISO_8859_15, text.as_bytes()).expect("an accepted text");
+            assert_eq!(table.list(), listing);
+            assert_eq!(Table::compile_in(table.set(), listing.as_bytes()), Ok(table));
+        }
     }
 }

@@ -3,8 +3,8 @@
 use harness::generate::backward_chain_text;
 use harness::random::Random;
 use harness::reference::{
-    self, Refusal, Window, BYTE_EDITION, CELLS, ISO_8859_1, ISO_8859_15, LINE_BYTES, PAIRS, SET_WORD, TEXT_BYTES,
-    TEXT_EDITION, WORDS,
+    self, Refusal, Window, BYTE_EDITION, CELLS, ISO_8859_1, ISO_8859_15, LINE_BYTES, LISTING_BYTES, PAIRS, SET_WORD,
+    TEXT_BYTES, TEXT_EDITION, WORDS,
 };
 use harness::side::{Side, SIDES};
 use std::ffi::OsString;
@@ -177,7 +177,7 @@ fn main() {
     println!("library: libheathdapple.a by the Rust package. reference: the same algorithm in plain Rust (linear scans, walks");
     println!("by scanning), but for UTF-8, which is the standard library's. hashed: a HashMap from character to meaning, built");
     println!("anew by each call; it has no attributes table and no byte table of its own, there the column is the reference again.");
-    println!("Release build. Buffers (words, cells, rules, entries) are filled once before the first call and not cleared between");
+    println!("Release build. Buffers that a call fills are filled once before the first call and not cleared between");
     println!("calls, on every side. Processor time of a call. One process for each program that is named (harness/run names {PROCESSES},");
     println!("each with its code at another place); in each the sides take turns, {ROUNDS} rounds and their median. Shown: the median of");
     println!("the processes, of times and of ratios, and the lowest and highest ratio of a process. Before timing, the three sides'");
@@ -365,6 +365,15 @@ fn typed_rows(sizes: [Size; 2]) {
     }
 }
 
+fn list_rows(sizes: [Size; 2]) {
+    heading("list (with its check)");
+    for (name, words, _) in sizes {
+        row(&format!("{name} definitions"), vec![0xA5; LISTING_BYTES], |side, bytes| {
+            (side.list)(black_box(words), bytes)
+        });
+    }
+}
+
 fn attribute_rows() {
     let text: String =
         reference::NAMES.iter().enumerate().map(|(dot, (name, _))| format!("dot {} ={name}\n", dot + 1)).collect();
@@ -477,6 +486,7 @@ fn measure() {
     private_rows(&small);
     braille_rows();
     typed_rows(sizes);
+    list_rows(sizes);
     attribute_rows();
     byte_rows();
 }
