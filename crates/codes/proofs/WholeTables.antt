@@ -1,7 +1,7 @@
 -- What is written for all 256 cells or bytes: each element, the whole buffer, and the calls' answers.
 use Prim.Native.Nat.{ℕ, zero, suc, _+_, _^_, _≤_, _<_}
-use mathlib.Core.Path.{_≡_, refl, ap}
-use mathlib.Core.List.{List, [], _∷_, map, map-id}
+use mathlib.Core.Path.{_≡_, refl, ap, _∙_}
+use mathlib.Core.List.{List, [], _∷_, map}
 use native.Mathlib.Omega.{arith}
 use lib.ListN.{length, getD, set, length-replicate, getD-replicate}
 use borrow.Author.Tests.{lt-ltb, le-ltb}
@@ -16,6 +16,8 @@ use Rattle.definitions.specs.declared.Definition.{Definition}
 use Rattle.definitions.specs.Definitions.{types, typedIn}
 use Rattle.table.specs.Check.{lentTable}
 use Rattle.table.proofs.Readback.{AllInRange, operand-small, lent-in-range}
+use Rattle.writing.specs.Writing.{Put}
+use Rattle.writing.proofs.Puts.{put-front}
 use Rattle.lookup.proofs.Buffers.{filledTo, filled-more, filled-all}
 use Rattle.typing.specs.declared.Entry.{Entry}
 use Rattle.typing.specs.Typing.{nothing, entriesBy, typingReply, typingEntries}
@@ -65,12 +67,8 @@ cells-more places old i e h room p =
     all-more (λ (byte : ℕ). attributeCell places byte) (numbersFrom 0 cellCount) (numbers-length 0 cellCount) old i e 0 h room (rw here p)
 
 -- an array that is copied
-module _ (l : List ℕ) (size : length l ≡ cellCount) (old : List ℕ) (i : ℕ) {new : List ℕ} (e : new ≡ filledTo (λ n. n) l i old) where
-  pub copied-more : i < cellCount → cellCount ≤ length old → set new i (getD l i 0) ≡ filledTo (λ n. n) l (i + 1) old
-  copied-more h room = all-more (λ n. n) l size old i e 0 h room refl
-
-  pub copied : i ≤ cellCount → cellCount ≤ i → new ≡ over l old
-  copied h k = rw (map-id l) at (all-over (λ n. n) l size old i e h k)
+pub copied : (l old : List ℕ) {r : ℕ} {new : List ℕ} → length l ≡ cellCount → cellCount ≤ length old → Put old 0 l r new → new ≡ over l old
+copied l old size room p = p .bytes ∙ put-front l old (omega arith)
 
 -- ---- what a table types
 

@@ -115,9 +115,5 @@ pub fn put_bytes(all: [u8; 256], cells: &mut [u8])
     requires { ⌜ cellCount ≤ length (now cells) ⌝ }
     ensures { λ r. ⌜ now (cells .exit) ≡ over all (now (cells .entry)) ⌝ }
 {
-    let mut i = 0;
-    while i < CELL_COUNT {
-        cells[i] = all[i];
-        i += 1;
-    }
+    writing::put_bytes(cells, 0, &all);
 }

@@ -5,7 +5,7 @@ use mathlib.Core.List.{List, [], _∷_, _++_}
 use native.Mathlib.Nat.{zero-add}
 use native.Mathlib.Omega.{arith}
 use lib.ListN.{length, getD, length-append}
-use lib.Seq.{append-snoc, sets, sets-eq}
+use lib.Seq.{append-snoc, sets}
 use Rattle.basics.specs.Buffers.{over}
 use Rattle.definitions.specs.declared.Meaning.{Meaning}
 use Rattle.definitions.specs.declared.Meaning.the-variants.{Typed, Shown, Alias}
@@ -13,7 +13,7 @@ use Rattle.definitions.specs.declared.Definition.{Definition}
 use Rattle.pairs.specs.Words.{meaningOf, definitions}
 use Rattle.pairs.proofs.Pairs.{rest, rest-all, rest-none, rest-more}
 use Rattle.writing.specs.Writing.{dotsText, Put}
-use Rattle.writing.proofs.Puts.{put-on, fits-first, fits-then}
+use Rattle.writing.proofs.Puts.{put-on, fits-first, fits-then, put-front}
 use Rattle.writing.proofs.Numerals.{digits-length}
 use Rattle.listing.specs.Listing.{escaped, directiveWord, operandText, lineOf, listing}
 use Rattle.listing.specs.Internal.{wholeLine, lineLength}
@@ -92,4 +92,4 @@ module _ (n : ℕ) (ws old : List ℕ) where
   put-first = rw rest-all
 
   pub all-put : (i : ℕ) (buffer : List ℕ) (at : ℕ) → sets buffer at (listing (rest n i ws)) ≡ sets old 0 all → length all ≤ length old → n ≤ i → buffer ≡ over all old
-  all-put i buffer at inv room h = rw (no-line n i ws h) at inv ∙ rw (zero-add (length all)) at (sets-eq all old 0 (omega arith))
+  all-put i buffer at inv room h = rw (no-line n i ws h) at inv ∙ put-front all old room

@@ -2,11 +2,12 @@
 use Prim.Native.Nat.{ℕ, suc, _+_, _≤_, _<_}
 use mathlib.Core.Path.{_≡_, refl, sym, _∙_}
 use mathlib.Core.List.{List, [], _∷_, _++_}
-use native.Mathlib.Nat.{add-zero}
+use native.Mathlib.Nat.{add-zero, zero-add}
 use native.Mathlib.Numerals.{add-one}
 use native.Mathlib.Omega.{arith}
 use lib.ListN.{length, getD, drop, set, length-append, drop-of-length-le}
-use lib.Seq.{drop-cons, sets, length-sets}
+use lib.Seq.{drop-cons, sets, length-sets, sets-eq}
+use Rattle.basics.specs.Buffers.{over}
 use Rattle.writing.specs.Writing.{Put}
 
 pub put-none : (old : List ℕ) (at : ℕ) → Put old at [] at old
@@ -39,6 +40,10 @@ module _ {old : List ℕ} {at m : ℕ} {mid : List ℕ} (s t : List ℕ) (p : Pu
 -- and for the first
 pub fits-first : (s t : List ℕ) (at n : ℕ) → at + length (s ++ t) ≤ n → at + length s ≤ n
 fits-first s t at n h = omega (arith, length-append s t)
+
+-- a text at the front of a buffer that has room for it
+pub put-front : (text old : List ℕ) → length text ≤ length old → sets old 0 text ≡ over text old
+put-front text old h = rw (zero-add (length text)) at (sets-eq text old 0 (omega arith))
 
 -- a loop that copies a text: what is left of it completes the whole
 module _ (old : List ℕ) (at : ℕ) (text : List ℕ) (i : ℕ) (buffer : List ℕ) (inv : sets buffer (at + i) (drop i text) ≡ sets old at text) where

@@ -8,11 +8,7 @@ pub heathdapple-list-spec : {M : Type 1} → statement M
 heathdapple-list-spec =
     tie.close
     (tie.spec
-    (λ c κs. search needs)
-    (λ c. search needs)
-    (λ c. search needs)
-    (λ c κs. search needs)
-    (λ c. search needs)
+    (λ c κs. search needs) (λ c. search needs) (λ c. search needs) (λ c κs. search needs) (λ c. search needs)
     (λ c. (search (code-of listedReply noColumn (λ n. n)), search needs))
     (λ c. search needs)
     (λ c. (search (code-of listedReply noColumn (λ n. n)), search needs)))

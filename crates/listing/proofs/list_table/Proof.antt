@@ -9,9 +9,7 @@ list-table-spec =
     tie.close
     (tie.spec
     (λ c. search list-short)
-    (λ c κs. search needs)
-    (λ c. search needs)
-    (λ c. search needs)
+    (λ c κs. search needs) (λ c. search needs) (λ c. search needs)
     (λ c κs. (search lent-fits, search sound-limit))
     (λ c. search list-long)
     (λ c κs. (search lent-fits, search list-fits))

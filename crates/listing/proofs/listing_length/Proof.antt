@@ -25,14 +25,7 @@ listing-length-spec =
     Inv-loop
     μ-loop
     (λ c. (search needs, search needs, search needs, search needs, search sum-first))
-    (λ c. search needs)
-    (λ c. search needs)
-    (λ c. search needs)
-    (λ c. search needs)
-    (λ c κs. search needs)
-    (λ c κs. search needs)
-    (λ c. search needs)
-    (λ c. search needs)
-    (λ c. search needs)
+    (λ c. search needs) (λ c. search needs) (λ c. search needs) (λ c. search needs) (λ c κs. search needs)
+    (λ c κs. search needs) (λ c. search needs) (λ c. search needs) (λ c. search needs)
     (λ c. (search needs, search needs, search needs, search needs, search sum-more))
     (λ c. search sum-all))

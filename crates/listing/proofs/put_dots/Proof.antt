@@ -10,9 +10,7 @@ pub put-dots-spec : {M : Type 1} → statement M
 put-dots-spec =
     tie.close
     (tie.spec
-    (λ c κs. search needs)
-    (λ c κs. search needs)
-    (λ c. search needs)
+    (λ c κs. search needs) (λ c κs. search needs) (λ c. search needs)
     (λ c. sym (length-take-le _ _ (search needs)))
     (λ c κs. search (digits-fit (32 ∷ [])))
     (λ c. search needs)

@@ -26,17 +26,10 @@ put-listing-spec =
     Inv-loop
     μ-loop
     (λ c. (search needs, search needs, search needs, search room-first, search put-first))
-    (λ c. search needs)
-    (λ c. search needs)
-    (λ c. search needs)
-    (λ c. search needs)
-    (λ c. search needs)
-    (λ c. search needs)
-    (λ c. search needs)
-    (λ c κs. search needs)
+    (λ c. search needs) (λ c. search needs) (λ c. search needs) (λ c. search needs) (λ c. search needs)
+    (λ c. search needs) (λ c. search needs) (λ c κs. search needs)
     (λ c κs. search next-fits)
-    (λ c. search needs)
-    (λ c. search needs)
+    (λ c. search needs) (λ c. search needs)
     (λ c.
     let inv = c .before .before .before .before .before .before .before .before .loop .inv in
     let left = next-put _ _ _ _ _ _ (inv .4) (inv .3) (omega arith) (inv .0) (c .before .before .before .meaning-of .ensures) (c .before .before .put-line .ensures) in

@@ -22,9 +22,6 @@ hex-digits-spec =
     Inv-loop
     μ-loop
     (λ c. (search needs, search needs, append-nil _))
-    (λ c. search needs)
-    (λ c κs. search needs)
-    (λ c. search needs)
-    (λ c. search needs)
+    (λ c. search needs) (λ c κs. search needs) (λ c. search needs) (λ c. search needs)
     (λ c. (search needs, search needs, search (digits-more, needs)))
     (λ c. search digits-all))

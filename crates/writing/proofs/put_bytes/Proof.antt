@@ -23,12 +23,7 @@ put-bytes-spec =
     Inv-loop
     μ-loop
     (λ c. (search needs, search needs, search needs, rw (add-zero _)))
-    (λ c. search needs)
-    (λ c. search needs)
-    (λ c. search needs)
-    (λ c. search needs)
-    (λ c. search needs)
+    (λ c. search needs) (λ c. search needs) (λ c. search needs) (λ c. search needs) (λ c. search needs)
     (λ c. (search needs, search needs, search needs, search copied-more))
-    (λ c. search needs)
-    (λ c. search needs)
+    (λ c. search needs) (λ c. search needs)
     (λ c. search copied-all))

@@ -23,11 +23,7 @@ raised-digits-spec =
     Inv-loop
     μ-loop
     (λ c. (search needs, search needs, search needs, refl))
-    (λ c. search needs)
-    (λ c. search needs)
-    (λ c. search needs)
-    (λ c. search needs)
-    (λ c. search needs)
+    (λ c. search needs) (λ c. search needs) (λ c. search needs) (λ c. search needs) (λ c. search needs)
     (λ c. search needs)
     (λ c. (search needs, search needs, search needs, search (raised-more, needs)))
     (λ c. (search raised-all, search needs)))
