@@ -1,7 +1,7 @@
--- Bytes of a listing: those of a line are ASCII and none is an LF or a CR, those of a word no whitespace either.
+-- The bytes of a listing: what they let a line and a word be.
 use Prim.Native.Nat.{ℕ, zero, suc, _+_, _/_, _%_, _<_}
 use mathlib.Core.Path.{_≡_, refl, sym, ap, _∙_}
-use mathlib.Core.Bool.{Bool, true, false, _&&_, not}
+use mathlib.Core.Bool.{Bool, true, _&&_, not}
 use mathlib.Core.List.{List, [], _∷_, _++_}
 use native.Mathlib.Nat.{add-zero}
 use native.Mathlib.Omega.{arith}
@@ -15,33 +15,31 @@ use Rattle.utf8.specs.declared.Validity.the-variants.{Good}
 use Rattle.lines.specs.Lines.{linesOf, withoutCR}
 use Rattle.lines.specs.Words.{isBlank, firstFrom}
 use Rattle.writing.specs.Writing.{hexDigit, hexDigits}
-
-abbrev pub isPlain : ℕ → Bool
-isPlain b = leb 32 b && ltb b 128
-
-abbrev pub isDark : ℕ → Bool
-isDark b = isPlain b && not (isBlank b)
+use Rattle.writing.proofs.Numerals.{digits-length}
 
 -- a test of all bytes
 abbrev pub every : (ℕ → Bool) → List ℕ → Bool
 every test [] = true
 every test (b ∷ bs) = test b && every test bs
 
-abbrev pub Plain : List ℕ → Type 0
-Plain bs = every isPlain bs ≡ true
-
-abbrev pub Dark : List ℕ → Type 0
-Dark bs = every isDark bs ≡ true
-
 pub every-append : (test : ℕ → Bool) (xs ys : List ℕ) → every test xs ≡ true → every test ys ≡ true → every test (xs ++ ys) ≡ true
 every-append test [] ys p q = q
 every-append test (x ∷ xs) ys p q = let e = both (test x) (every test xs) p in rw (e .0) (every-append test xs ys (e .1) q)
 
-pub dark-plain : (bs : List ℕ) → Dark bs → Plain bs
-dark-plain [] d = refl
-dark-plain (b ∷ bs) d = let e = both (isDark b) (every isDark bs) d in rw (both (isPlain b) _ (e .0) .0) (dark-plain bs (e .1))
+-- what holds of each hex digit holds of those of a number
+every-digit : (test : ℕ → Bool) → allBelow 16 (λ d. test (hexDigit d)) ≡ true → (k n : ℕ) → every test (hexDigits k n) ≡ true
+unfolding hexDigits
+every-digit test e zero n = refl
+every-digit test e (suc k) n =
+    every-append test (hexDigits k (n / 16)) (hexDigit (n % 16) ∷ []) (every-digit test e k (n / 16)) (rw (below 16 (λ d. test (hexDigit d)) e (n % 16) (omega arith)))
 
--- ---- a plain line
+-- ---- a line of ASCII without control bytes
+
+abbrev pub isPlain : ℕ → Bool
+isPlain b = leb 32 b && ltb b 128
+
+abbrev pub Plain : List ℕ → Type 0
+Plain bs = every isPlain bs ≡ true
 
 plain-byte : (b : ℕ) (bs : List ℕ) → Plain (b ∷ bs) → ((31 < b) × (b < 128)) × Plain bs
 plain-byte b bs p =
@@ -65,26 +63,22 @@ unfolding utf8From afterFirst
 plain-utf8 [] i p = refl
 plain-utf8 (b ∷ l) i p = let e = plain-byte b l p in rw (lt-ltb b 128 (e .0 .1)) (plain-utf8 l (i + 1) (e .1))
 
--- ---- a dark word: it ends where the bytes behind it begin
+pub digits-plain : (c : ℕ) → Plain (hexDigits 8 c)
+unfolding hexDigit
+digits-plain c = every-digit isPlain refl 8 c
 
-pub dark-byte : (b : ℕ) (bs : List ℕ) → Dark (b ∷ bs) → (isBlank b ≡ false) × Dark bs
-dark-byte b bs d =
-    let e = both (isDark b) (every isDark bs) d in
-    (not-true (isBlank b) (both (isPlain b) (not (isBlank b)) (e .0) .1), e .1)
+-- ---- a word: without whitespace, it ends where the bytes behind it begin
 
-pub word-end : (w r : List ℕ) (i : ℕ) → Dark w → ((j : ℕ) → firstFrom true r j ≡ j) → firstFrom true (w ++ r) i ≡ i + length w
+abbrev isDark : ℕ → Bool
+isDark b = not (isBlank b)
+
+word-end : (w r : List ℕ) (i : ℕ) → every isDark w ≡ true → ((j : ℕ) → firstFrom true r j ≡ j) → firstFrom true (w ++ r) i ≡ i + length w
 unfolding firstFrom
 word-end [] r i d e = e i ∙ sym (add-zero i)
-word-end (b ∷ w) r i d e = let f = dark-byte b w d in rw (f .0) (word-end w r (i + 1) (f .1) e ∙ omega arith)
+word-end (b ∷ w) r i d e =
+    let f = both (isDark b) (every isDark w) d in
+    rw (not-true (isBlank b) (f .0)) (word-end w r (i + 1) (f .1) e ∙ omega arith)
 
--- ---- hex digits: one test, computed for all of them
-
-all-dark : allBelow 16 (λ d. isDark (hexDigit d)) ≡ true
+pub digits-end : (c : ℕ) (r : List ℕ) (i : ℕ) → ((j : ℕ) → firstFrom true r j ≡ j) → firstFrom true (hexDigits 8 c ++ r) i ≡ i + 8
 unfolding hexDigit isBlank
-all-dark = refl
-
-pub hex-dark : (k n : ℕ) → Dark (hexDigits k n)
-unfolding hexDigits
-hex-dark zero n = refl
-hex-dark (suc k) n =
-    every-append isDark (hexDigits k (n / 16)) (hexDigit (n % 16) ∷ []) (hex-dark k (n / 16)) (rw (below 16 (λ d. isDark (hexDigit d)) all-dark (n % 16) (omega arith)))
+digits-end c r i e = rw (digits-length 8 c) at (word-end (hexDigits 8 c) r i (every-digit isDark refl 8 c) e)

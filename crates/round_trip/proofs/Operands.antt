@@ -1,31 +1,30 @@
 -- Listed characters and dots are read back, wherever they stand.
 use Prim.Native.Nat.{ℕ, zero, suc, _+_, _-_, _*_, _/_, _%_, _<_}
-use mathlib.Core.Path.{_≡_, refl, sym, _∙_}
+use mathlib.Core.Path.{_≡_, refl, sym}
 use mathlib.Core.Bool.{Bool, true, false, not, _&&_}
-use mathlib.Core.List.{List, [], _∷_, _++_, append-nil}
-use native.Mathlib.Nat.{add-zero}
+use mathlib.Core.List.{List, [], _∷_, _++_}
 use native.Mathlib.Omega.{arith}
-use lib.Dec.{eqb, ltb}
-use lib.ListN.{length, getD, drop, length-append, drop-of-length-le}
-use lib.Seq.{append-snoc, take-append-seam, drop-append-seam, drop-append-add, getD-append-add}
-use borrow.Author.Tests.{eqb-true, eq-eqb, ne-eqb, lt-ltb, ltb-true, not-true}
-use Rattle.basics.specs.Choice.{pick}
+use lib.Dec.{eqb}
+use lib.ListN.{length, drop}
+use lib.Seq.{take-append-seam, drop-append-seam, drop-append-add}
+use borrow.Author.Tests.{eqb-true, ne-eqb, lt-ltb, not-true}
+use Rattle.basics.specs.Ascii.{ascii}
 use Rattle.basics.specs.declared.Maybe.the-variants.{Character}
 use Rattle.basics.proofs.Tests.{both, allBelow, below}
 use Rattle.unicode.specs.Characters.{isScalar, isPrivate, isOperand, localOf}
-use Rattle.lines.specs.Words.{isBlank, firstFrom, firstAt, wordAt, bytesOf, isOver}
+use Rattle.lines.specs.declared.Word.{Word}
+use Rattle.lines.specs.Words.{isBlank, firstFrom, firstAt, wordAt, bytesOf}
 use Rattle.characters.specs.Characters.{noNumber, digitOf, withDigit, digitsFrom, radixOf, wordNumber, characterOf, operandOf}
 use Rattle.dots.specs.Dots.{raiseBy, raise, raiseInside, endsAt, digitsAt, insideAt, cellAt, dotsAt}
-use Rattle.dots.specs.declared.CellRead.{CellRead}
-use Rattle.dots.specs.declared.CellRead.the-variants.{Bad, Read}
 use Rattle.operands.specs.Operands.{characterAt, dotsOperandAt}
 use Rattle.operands.specs.declared.Operand.the-variants as O
+use Rattle.operands.specs.declared.DotsOperand.{DotsOperand}
 use Rattle.operands.specs.declared.DotsOperand.the-variants as D
 use Rattle.table.proofs.Readback.{operand-below}
 use Rattle.writing.specs.Writing.{hexDigit, hexDigits, raisedFrom, dotsText}
 use Rattle.writing.proofs.Numerals.{digits-length}
 use Rattle.listing.specs.Listing.{escaped}
-use Rattle.round_trip.proofs.Bytes.{isDark, every, Dark, dark-byte, word-end, hex-dark}
+use Rattle.round_trip.proofs.Bytes.{every, isPlain, Plain, digits-end}
 
 -- ---- a character
 
@@ -64,12 +63,6 @@ operand-back charset c h =
     let e = both (isScalar c) (not (isPrivate c)) h in
     rw (number-back c (operand-below c h), e .0, not-true (isPrivate c) (e .1))
 
-pub escaped-dark : (c : ℕ) → Dark (escaped c)
-unfolding isBlank
-escaped-dark c = hex-dark 8 c
-
--- ---- a word behind p and a blank
-
 -- bytes that end a word before them
 abbrev Ends : List ℕ → Type 0
 Ends r = (i : ℕ) → firstFrom true r i ≡ i
@@ -82,90 +75,65 @@ pub ends-blank : (r : List ℕ) → Ends (32 ∷ r)
 unfolding firstFrom isBlank
 ends-blank r i = refl
 
-starts : (b : ℕ) (bs : List ℕ) (i : ℕ) → isBlank b ≡ false → firstFrom false (32 ∷ b ∷ bs) i ≡ i + 1
-unfolding firstFrom isBlank
-starts b bs i h = rw h
-
-module _ (p : List ℕ) (b : ℕ) (w r : List ℕ) (d : Dark (b ∷ w)) (ends : Ends r) where
+-- a character behind p and a blank
+module _ (p r : List ℕ) (c : ℕ) (ends : Ends r) where
   abbrev line : List ℕ
-  line = p ++ (32 ∷ b ∷ (w ++ r))
+  line = p ++ (32 ∷ (escaped c ++ r))
 
-  word-behind : wordAt line (length p) ≡ record { start = length p + 1; end = length p + 1 + length (b ∷ w) }
-  unfolding wordAt firstAt
+  abbrev word : Word
+  word = record { start = length p + 1; end = length p + 11 }
+
+  from-word : drop (length p + 1) line ≡ escaped c ++ r
+  from-word = drop-append-add p (32 ∷ (escaped c ++ r)) 1
+
+  word-behind : wordAt line (length p) ≡ word
+  unfolding wordAt firstAt firstFrom isBlank
   word-behind =
-      rw (drop-append-seam p (32 ∷ b ∷ (w ++ r)), starts b (w ++ r) (length p) (dark-byte b w d .0), drop-append-add p (32 ∷ b ∷ (w ++ r)) 1, word-end (b ∷ w) r (length p + 1) d ends)
+      let end : length p + 1 + 1 + 1 + 8 ≡ length p + 11 = omega arith in
+      rw (drop-append-seam p (32 ∷ (escaped c ++ r)), from-word, digits-end c r (length p + 1 + 1 + 1) ends, end)
 
-  word-bytes : bytesOf line (record { start = length p + 1; end = length p + 1 + length (b ∷ w) }) ≡ b ∷ w
+  word-bytes : bytesOf line word ≡ escaped c
   word-bytes =
-      let n : length p + 1 + length (b ∷ w) - (length p + 1) ≡ length (b ∷ w) = omega arith in
-      rw (n, drop-append-add p (32 ∷ b ∷ (w ++ r)) 1) (take-append-seam (b ∷ w) r)
+      let n : length p + 11 - (length p + 1) ≡ length (escaped c) = omega (arith, digits-length 8 c) in
+      rw (n, from-word) (take-append-seam (escaped c) r)
 
-  not-missing : eqb (length p + 1) (length p + 1 + length (b ∷ w)) ≡ false
-  not-missing = ne-eqb (length p + 1) (length p + 1 + length (b ∷ w)) (λ q. omega arith)
+  pub character-behind : (charset : ℕ) → isOperand c ≡ true → characterAt charset false line (length p) ≡ O.Value c (length p + 11)
+  unfolding characterAt
+  character-behind charset h = rw (word-behind, ne-eqb (length p + 1) (length p + 11) (λ q. omega arith), word-bytes, operand-back charset c h)
 
-pub character-behind : (charset : ℕ) (p r : List ℕ) (c : ℕ) → isOperand c ≡ true → Ends r → characterAt charset false (p ++ (32 ∷ (escaped c ++ r))) (length p) ≡ O.Value c (length p + 11)
-unfolding characterAt
-character-behind charset p r c h ends =
-    let digits : List ℕ = 85 ∷ hexDigits 8 c in
-    let d = escaped-dark c in
-    let size : length p + 1 + length (escaped c) ≡ length p + 11 = omega (arith, digits-length 8 c) in
-    rw (word-behind p 92 digits r d ends, not-missing p 92 digits r d ends, word-bytes p 92 digits r d ends, operand-back charset c h, size)
+-- ---- dots: one test, computed for all cells, whatever the character before them
 
--- ---- dots
+abbrev isValue : DotsOperand → ℕ → ℕ → Bool
+isValue (D.Fault refusal left) cell after = false
+isValue (D.Value c a) cell after = eqb c cell && eqb a after
 
--- dots by the bytes from a place on
-abbrev dotsFrom : List ℕ → ℕ → CellRead
-dotsFrom t at =
-    pick (eqb (getD t 0 0) 40) (insideAt (drop 1 t) (at + 1) 0) (pick (eqb (getD t 0 0) 48) (endsAt (drop 1 t) (at + 1) 0) (digitsAt t at 0))
+is-value : (o : DotsOperand) (cell after : ℕ) → isValue o cell after ≡ true → o ≡ D.Value cell after
+is-value (D.Fault refusal left) cell after e = cc
+is-value (D.Value c a) cell after e = let p = both (eqb c cell) (eqb a after) e in cc (eqb-true c cell (p .0), eqb-true a after (p .1))
 
-dots-from : (p t : List ℕ) → dotsAt (p ++ t) (length p) ≡ dotsFrom t (length p)
-unfolding dotsAt cellAt
-dots-from p t = rw (drop-append-seam p t, drop-append-add p t 1, rw (add-zero (length p)) at (getD-append-add p t 0 0))
+module _ (c : ℕ) where
+  abbrev dotsBehind : List ℕ → ℕ → DotsOperand
+  dotsBehind word n = dotsOperandAt true ((word ++ (32 ∷ escaped c)) ++ (32 ∷ dotsText n)) (length word + 11)
 
-abbrev isRead : CellRead → ℕ → ℕ → Bool
-isRead Bad cell after = false
-isRead (Read c a) cell after = eqb c cell && eqb a after
+  abbrev isBack : List ℕ → ℕ → Bool
+  isBack word n = isValue (dotsBehind word n) n (length word + 12 + length (dotsText n))
 
-is-read : (r : CellRead) (cell after : ℕ) → isRead r cell after ≡ true → r ≡ Read cell after
-is-read Bad cell after e = cc
-is-read (Read c a) cell after e = let p = both (eqb c cell) (eqb a after) e in cc (eqb-true c cell (p .0), eqb-true a after (p .1))
+  abbrev isListed : ℕ → Bool
+  isListed n = every isPlain (dotsText n) && (isBack (ascii "char") n && isBack (ascii "glyph") n)
 
--- the dots of a cell are read back at a place: at 16 and 17, where they stand in a listing, this is one test, computed for all cells
-abbrev pub isBackAt : ℕ → ℕ → Bool
-isBackAt at n = isRead (dotsFrom (dotsText n) at) n (at + length (dotsText n))
+  all-listed : allBelow 256 isListed ≡ true
+  unfolding hexDigits dotsText raisedFrom dotsOperandAt wordAt firstAt firstFrom isBlank dotsAt cellAt endsAt digitsAt insideAt raise raiseInside raiseBy
+  all-listed = refl
 
-abbrev isBack : ℕ → Bool
-isBack n = (isBackAt 16 n && isBackAt 17 n) && (every isDark (dotsText n) && ltb 0 (length (dotsText n)))
+  module _ (n : ℕ) (h : n < 256) where
+    listed : Plain (dotsText n) × (isBack (ascii "char") n && isBack (ascii "glyph") n ≡ true)
+    listed = both (every isPlain (dotsText n)) _ (below 256 isListed all-listed n h)
 
-all-back : allBelow 256 isBack ≡ true
-unfolding dotsText raisedFrom cellAt endsAt digitsAt insideAt raise raiseInside raiseBy isBlank
-all-back = refl
+    pub dots-plain : Plain (dotsText n)
+    dots-plain = listed .0
 
-pub record DotsBack (n : ℕ) : Type 0 where
-  pub at16 : isBackAt 16 n ≡ true
-  pub at17 : isBackAt 17 n ≡ true
-  pub dark : Dark (dotsText n)
-  pub some : 0 < length (dotsText n)
+    pub char-dots : dotsBehind (ascii "char") n ≡ D.Value n (16 + length (dotsText n))
+    char-dots = is-value (dotsBehind (ascii "char") n) n (16 + length (dotsText n)) (both (isBack (ascii "char") n) (isBack (ascii "glyph") n) (listed .1) .0)
 
-pub dots-back : (n : ℕ) → n < 256 → DotsBack n
-dots-back n h =
-    let e = both (isBackAt 16 n && isBackAt 17 n) _ (below 256 isBack all-back n h) in
-    let p = both (isBackAt 16 n) (isBackAt 17 n) (e .0) in
-    let q = both (every isDark (dotsText n)) (ltb 0 (length (dotsText n))) (e .1) in
-    record { at16 = p .0; at17 = p .1; dark = q .0; some = ltb-true 0 (length (dotsText n)) (q .1) }
-
-dots-list : (p t : List ℕ) (n : ℕ) → Dark t → 0 < length t → dotsFrom t (length p + 1) ≡ Read n (length p + 1 + length t) → dotsOperandAt true (p ++ (32 ∷ t)) (length p) ≡ D.Value n (length p + 1 + length t)
-unfolding dotsOperandAt
-dots-list p [] n d s e = absurd (omega arith)
-dots-list p (b ∷ bs) n d s e =
-    let word = rw (append-nil bs) at (word-behind p b bs [] d ends-nil) in
-    let read = rw (length-append p (32 ∷ []), append-snoc p 32 (b ∷ bs)) at (dots-from (p ++ (32 ∷ [])) (b ∷ bs)) ∙ e in
-    rw (word, not-missing p b bs [] d ends-nil, read)
-
-pub dots-behind : (p : List ℕ) (n : ℕ) → DotsBack n → isBackAt (length p + 1) n ≡ true → dotsOperandAt true (p ++ (32 ∷ dotsText n)) (length p) ≡ D.Value n (length p + 1 + length (dotsText n))
-dots-behind p n d e = dots-list p (dotsText n) n (d .dark) (d .some) (is-read (dotsFrom (dotsText n) (length p + 1)) n (length p + 1 + length (dotsText n)) e)
-
--- nothing stands behind a line's last byte
-pub over-end : (line : List ℕ) → isOver line (length line) ≡ true
-unfolding isOver wordAt firstAt firstFrom
-over-end line = let none : drop (length line) line ≡ [] = drop-of-length-le line {i = length line} (omega arith) in rw (none, none, eq-eqb (length line) (length line) refl)
+    pub glyph-dots : dotsBehind (ascii "glyph") n ≡ D.Value n (17 + length (dotsText n))
+    glyph-dots = is-value (dotsBehind (ascii "glyph") n) n (17 + length (dotsText n)) (both (isBack (ascii "char") n) (isBack (ascii "glyph") n) (listed .1) .1)

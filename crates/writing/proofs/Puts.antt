@@ -1,6 +1,6 @@
 -- Texts put one behind another are one text.
 use Prim.Native.Nat.{ℕ, suc, _+_, _≤_, _<_}
-use mathlib.Core.Path.{_≡_, refl, sym, _∙_}
+use mathlib.Core.Path.{_≡_, sym, _∙_}
 use mathlib.Core.List.{List, [], _∷_, _++_}
 use native.Mathlib.Nat.{add-zero, zero-add}
 use native.Mathlib.Numerals.{add-one}
@@ -10,12 +10,6 @@ use lib.Seq.{drop-cons, sets, length-sets, sets-eq}
 use Rattle.basics.specs.Buffers.{over}
 use Rattle.writing.specs.Writing.{Put}
 
-pub put-none : (old : List ℕ) (at : ℕ) → Put old at [] at old
-put-none old at = record { bytes = refl; after = sym (add-zero at) }
-
-pub put-one : (old : List ℕ) (at b : ℕ) → Put old at (b ∷ []) (at + 1) (set old at b)
-put-one old at b = record { bytes = refl; after = refl }
-
 sets-append : (l : List ℕ) (i : ℕ) (s t : List ℕ) → sets l i (s ++ t) ≡ sets (sets l i s) (i + length s) t
 sets-append l i [] t = rw (add-zero i)
 sets-append l i (x ∷ s) t =
@@ -23,7 +17,7 @@ sets-append l i (x ∷ s) t =
     rw e at (sets-append (set l i x) (suc i) s t)
 
 module _ {old : List ℕ} {at m : ℕ} {mid : List ℕ} (s t : List ℕ) (p : Put old at s m mid) where
-  pub put-length : length mid ≡ length old
+  put-length : length mid ≡ length old
   put-length = rw (p .bytes) (length-sets old at s)
 
   -- what is put behind a text goes on with it
