@@ -77,12 +77,12 @@ uint64_t heathdapple_typed(const uint32_t *words, size_t words_length, uint8_t c
  * its place, which writes nothing: 2 for entries under 256, before all others, then as above. */
 uint64_t heathdapple_entries(const uint32_t *words, size_t words_length, uint32_t *entries, size_t entries_length);
 
-/* Lists a compiled table as text at the front of bytes, one line a definition, in order: `char`, `glyph` or `alias`, a
+/* Lists a compiled table as text at the front of buffer, one line a definition, in order: `char`, `glyph` or `alias`, a
  * blank, the character, a blank, the dots, rising or `0` for none, or the target of the alias, LF. Characters are `\U`
  * with eight lower-case hex digits. Compiled by edition 2 in the table's set the text gives the same 2,050 words.
  * Bytes past it stay. Answers its length, or a refusal with its place, which writes nothing: 2 for short words, 15,
- * then 2 for bytes under that length. A line has at most 28 bytes with its LF, so 28,672 are enough for any table. */
-uint64_t heathdapple_list(const uint32_t *words, size_t words_length, uint8_t *bytes, size_t bytes_length);
+ * then 2 for a buffer that is shorter. A line has at most 28 bytes with its LF, so 28,672 are enough for any table. */
+uint64_t heathdapple_list(const uint32_t *words, size_t words_length, uint8_t *buffer, size_t buffer_length);
 
 /* The cell of a VGA attribute byte by an attributes table's text, or the refusal of that text with its line and
  * column. */

@@ -1,5 +1,5 @@
 //! Safe calls over Heathdapple, a proved reference for braille terminals: text tables, attributes tables and old byte
-//! tables, the cell that a character shows, the character that a cell types.
+//! tables, the cell that a character shows, the character that a cell types, a compiled table as text.
 //!
 //! [`Table`] owns a compiled table:
 //!
@@ -196,28 +196,28 @@ pub fn entries(words: &[u32], entries: &mut [u32]) -> Result<(), Refusal> {
     value(library::entries(words, entries), 0).map(drop)
 }
 
-/// Lists a compiled table as text, one line a definition, in order, at the front of the bytes; answers its length.
+/// Lists a compiled table as text, one line a definition, in order, at the front of the buffer; answers its length.
 ///
 /// A line is `char`, `glyph` or `alias`, a blank, the character, a blank, and the dots, rising or `0` for none, or the
 /// target of the alias. Characters are `\U` with eight lower-case hex digits. [`compile`] by [`TEXT_EDITION`] in the
 /// table's own set makes the same words of the text.
 ///
-/// Bytes past it stay. A refusal writes nothing: 2 for too few words, 15 for words that are no table, then 2 for bytes
-/// that do not hold the text; [`LISTING_BYTES`] always do.
+/// Bytes past it stay. A refusal writes nothing: 2 for too few words, 15 for words that are no table, then 2 for a buffer
+/// that does not hold the text; one of [`LISTING_BYTES`] always does.
 ///
 /// ```
 /// use heathdapple::{list, Table};
 ///
 /// let table = Table::compile(b"byte a (21)\nalias \\u00E4 \\uF061\n")?;
-/// let mut bytes = [b'.'; 50];
-/// assert_eq!(list(table.words(), &mut bytes), Ok(48));
-/// assert_eq!(&bytes, b"glyph \\U00000061 12\nalias \\U000000e4 \\U00000061\n..");
-/// assert_eq!(list(table.words(), &mut bytes[..47]).unwrap_err().number, 2);
+/// let mut buffer = [b'.'; 50];
+/// assert_eq!(list(table.words(), &mut buffer), Ok(48));
+/// assert_eq!(&buffer, b"glyph \\U00000061 12\nalias \\U000000e4 \\U00000061\n..");
+/// assert_eq!(list(table.words(), &mut buffer[..47]).unwrap_err().number, 2);
 /// # Ok::<(), heathdapple::Refusal>(())
 /// ```
-pub fn list(words: &[u32], bytes: &mut [u8]) -> Result<usize, Refusal> {
-    let most = bytes.len().min(LISTING_BYTES);
-    Ok(value(library::list(words, bytes), most as u32)? as usize)
+pub fn list(words: &[u32], buffer: &mut [u8]) -> Result<usize, Refusal> {
+    let most = buffer.len().min(LISTING_BYTES);
+    Ok(value(library::list(words, buffer), most as u32)? as usize)
 }
 
 /// The cell of a VGA attribute byte by an attributes table's text, or the refusal of that text with its line and column.

@@ -59,7 +59,7 @@ mod c {
             entries: *mut u32,
             entries_length: usize,
         ) -> u64;
-        pub fn heathdapple_list(words: *const u32, words_length: usize, bytes: *mut u8, bytes_length: usize) -> u64;
+        pub fn heathdapple_list(words: *const u32, words_length: usize, buffer: *mut u8, buffer_length: usize) -> u64;
         pub fn heathdapple_attribute_cell(text: *const u8, text_length: usize, byte: u8) -> u64;
         pub fn heathdapple_attribute_cells(
             text: *const u8,
@@ -132,9 +132,9 @@ pub fn entries(words: &[u32], entries: &mut [u32]) -> u64 {
     unsafe { c::heathdapple_entries(words.as_ptr(), words.len(), entries.as_mut_ptr(), entries.len()) }
 }
 
-pub fn list(words: &[u32], bytes: &mut [u8]) -> u64 {
-    // SAFETY: `words` is read and `bytes` written, each within its slice; bytes that do not hold the text are refused.
-    unsafe { c::heathdapple_list(words.as_ptr(), words.len(), bytes.as_mut_ptr(), bytes.len()) }
+pub fn list(words: &[u32], buffer: &mut [u8]) -> u64 {
+    // SAFETY: `words` is read and `buffer` written, each within its slice; a buffer that is too short is refused.
+    unsafe { c::heathdapple_list(words.as_ptr(), words.len(), buffer.as_mut_ptr(), buffer.len()) }
 }
 
 pub fn attribute_cell(text: &[u8], byte: u8) -> u64 {

@@ -71,7 +71,7 @@ fn again_answer(words: &[u32], bytes: &[u8], length: usize) -> Text {
     let mut back = [7u32; WORDS];
     let answer = compile(PRESENT, words[PAIR_WORDS], &bytes[0..length], &mut back);
     let front = replies::counted_text(length, answer);
-    replies::push_back(front, words, &back, &bytes[length..])
+    replies::push_read_back(front, words, &back, &bytes[length..])
 }
 
 fn listed_back(words: &[u32], bytes: &mut [u8]) -> Text {

@@ -174,13 +174,13 @@ pub extern "C" fn heathdapple_byte_cells(set: u32, text: &[u8], cells: &mut [u8]
     compile_code(answer)
 }
 
-// Lists a table as text, a line a definition, at the front of `bytes`: the length of the text, or the refusal with its place.
+// Lists a table as text, a line a definition, at the front of `buffer`: the length of the text, or the refusal with its place.
 #[no_mangle]
-pub extern "C" fn heathdapple_list(words: &[u32], bytes: &mut [u8]) -> u64
-    ensures code { λ r. ⌜ r ≡ countCode (listingReply (listingPlan (now (words .entry)) (length (now (bytes .entry))))) ⌝ }
-    ensures bytes { λ r. ⌜ now (bytes .exit) ≡ listingBytes (listingPlan (now (words .entry)) (length (now (bytes .entry)))) (now (bytes .entry)) ⌝ }
+pub extern "C" fn heathdapple_list(words: &[u32], buffer: &mut [u8]) -> u64
+    ensures code { λ r. ⌜ r ≡ countCode (listingReply (listingPlan (now (words .entry)) (length (now (buffer .entry))))) ⌝ }
+    ensures bytes { λ r. ⌜ now (buffer .exit) ≡ listingBytes (listingPlan (now (words .entry)) (length (now (buffer .entry)))) (now (buffer .entry)) ⌝ }
 {
-    match listing::list_table(words, bytes) {
+    match listing::list_table(words, buffer) {
         Listed::Length(length) => length as u64,
         Listed::Refused(refusal, place) => refusal_code(refusal, 0, place),
     }

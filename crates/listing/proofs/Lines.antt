@@ -12,14 +12,15 @@ use Rattle.definitions.specs.declared.Meaning.the-variants.{Typed, Shown, Alias
 use Rattle.definitions.specs.declared.Definition.{Definition}
 use Rattle.pairs.specs.Words.{meaningOf, definitions}
 use Rattle.pairs.proofs.Pairs.{rest, rest-all, rest-none, rest-more}
-use Rattle.writing.specs.Writing.{dotsText, Put}
+use Rattle.writing.specs.Writing.{Put}
 use Rattle.writing.proofs.Puts.{put-on, fits-first, fits-then, put-front}
 use Rattle.writing.proofs.Numerals.{digits-length}
 use Rattle.listing.specs.Listing.{escaped, directiveWord, operandText, lineOf, listing}
 use Rattle.listing.specs.Internal.{wholeLine, lineLength}
 
-pub line-length : (c : ℕ) (m : Meaning) → length (wholeLine c m) ≡ lineLength m
-line-length c m =
+-- beside its word and its operand a line has two blanks, the ten bytes of the character and the LF
+beside : (c : ℕ) (m : Meaning) → length (wholeLine c m) ≡ length (directiveWord m) + length (operandText m) + 13
+beside c m =
     omega (
       arith,
       length-append (lineOf (record { character = c; meaning = m })) (10 ∷ []),
@@ -28,16 +29,14 @@ line-length c m =
       digits-length 8 c,
     )
 
--- by its case; k is how many digits the dots take
-module _ {m : Meaning} (k : ℕ) where
-  pub typed-length : {dots : ℕ} → m ≡ Typed dots → k ≡ length (dotsText dots) → 17 + k ≡ lineLength m
-  typed-length e p = rw e (omega arith)
+line-length : (c : ℕ) (m : Meaning) → length (wholeLine c m) ≡ lineLength m
+line-length c (Typed n) = omega (arith, beside c (Typed n))
+line-length c (Shown n) = omega (arith, beside c (Shown n))
+line-length c (Alias t) = omega (arith, beside c (Alias t), digits-length 8 t)
 
-  pub shown-length : {dots : ℕ} → m ≡ Shown dots → k ≡ length (dotsText dots) → 18 + k ≡ lineLength m
-  shown-length e p = rw e (omega arith)
-
-pub alias-length : {m : Meaning} {target : ℕ} → m ≡ Alias target → 28 ≡ lineLength m
-alias-length {target = target} e = rw e (omega (arith, digits-length 8 target))
+-- x is the case that a match told; k digits more
+pub case-length : (a : ℕ) {m x : Meaning} {k n : ℕ} → m ≡ x → k ≡ n → a + n ≡ lineLength x → a + k ≡ lineLength m
+case-length a e p h = rw (e, p) h
 
 -- ---- loops over pairs: the first line of those that are left, and the others
 

@@ -4,14 +4,14 @@ use definitions::Meaning;
 use table::Checked;
 use table::TABLE_WORDS;
 ghost use mathlib.Core.Path.{_≡_};
-ghost use mathlib.Core.List.{[], _∷_, _++_};
+ghost use mathlib.Core.List.{_∷_};
 ghost use Prim.Native.Nat.{_+_, _*_, _≤_};
 ghost use lib.ListN.{length};
 ghost use Rattle.basics.specs.Buffers.{over};
 ghost use Rattle.definitions.specs.Effects.{definitionLimit};
 ghost use Rattle.pairs.specs.Words.{definitions};
 ghost use Rattle.writing.specs.Writing.{dotsText, Put};
-ghost use Rattle.listing.specs.Listing.{escaped, directiveWord, operandText, lineOf, listing, Lists};
+ghost use Rattle.listing.specs.Listing.{escaped, directiveWord, operandText, listing, Lists};
 ghost use Rattle.listing.specs.Internal.{wholeLine, lineLength};
 
 // The most bytes that a listing has: 1,024 lines of 28.

@@ -278,7 +278,7 @@ fn same_words(left: &[u32], right: &[u32]) -> bool {
 
 // Whether a listing gives the words of the table back, in words that all held 7, and leaves those beyond and the bytes
 // past it.
-pub fn push_back(text: Text, words: &[u32], back: &[u32], past: &[u8]) -> Text {
+pub fn push_read_back(text: Text, words: &[u32], back: &[u32], past: &[u8]) -> Text {
     if words.len() < TABLE_WORDS {
         return text;
     }

@@ -27,7 +27,7 @@ use Rattle.writing.specs.Writing.{hexDigits, dotsText}
 use Rattle.writing.proofs.Numerals.{digits-length, dots-few}
 use Rattle.listing.specs.Listing.{escaped, directiveWord, operandText, lineOf}
 use Rattle.round_trip.proofs.Bytes.{isPlain, Plain, every-append, plain-utf8, digits-plain}
-use Rattle.round_trip.proofs.Operands.{ends-nil, ends-blank, character-behind, dots-plain, char-dots, glyph-dots}
+use Rattle.round_trip.proofs.Operands.{ends-nil, ends-blank, character-behind, dots-plain, dots-behind, all-listed}
 
 -- a line by its word, its character and its operand
 module _ (word o : List ℕ) (c : ℕ) where
@@ -100,10 +100,12 @@ module _ (charset : ℕ) (ds : List Definition) where
   meaning-back : (c : ℕ) → isOperand c ≡ true → (m : Meaning) → isNumberInRange m ≡ true → LineBack (record { character = c; meaning = m })
   meaning-back c h (Typed n) e =
       let l : n < 256 = omega (arith, leb-true n 255 e) in
-      line-back c (Typed n) (dots-plain c n l) (omega (arith, dots-few n l)) refl (λ left. dots-read (ascii "char") charset c h true n left (char-dots c n l))
+      let all = all-listed c .0 in
+      line-back c (Typed n) (dots-plain c (ascii "char") all n l) (omega (arith, dots-few n l)) refl (λ left. dots-read (ascii "char") charset c h true n left (dots-behind c (ascii "char") all n l))
   meaning-back c h (Shown n) e =
       let l : n < 256 = omega (arith, leb-true n 255 e) in
-      line-back c (Shown n) (dots-plain c n l) (omega (arith, dots-few n l)) refl (λ left. dots-read (ascii "glyph") charset c h false n left (glyph-dots c n l))
+      let all = all-listed c .1 in
+      line-back c (Shown n) (dots-plain c (ascii "glyph") all n l) (omega (arith, dots-few n l)) refl (λ left. dots-read (ascii "glyph") charset c h false n left (dots-behind c (ascii "glyph") all n l))
   meaning-back c h (Alias t) e =
       line-back c (Alias t) (digits-plain t) (omega (arith, digits-length 8 t)) refl (λ left. alias-read (ascii "alias") charset c h t left e)
 

@@ -1,4 +1,4 @@
--- Listed characters and dots are read back, wherever they stand.
+-- Listed characters and dots are read back.
 use Prim.Native.Nat.{ℕ, zero, suc, _+_, _-_, _*_, _/_, _%_, _<_}
 use mathlib.Core.Path.{_≡_, refl, sym}
 use mathlib.Core.Bool.{Bool, true, false, not, _&&_}
@@ -111,29 +111,23 @@ is-value : (o : DotsOperand) (cell after : ℕ) → isValue o cell after ≡ tru
 is-value (D.Fault refusal left) cell after e = cc
 is-value (D.Value c a) cell after e = let p = both (eqb c cell) (eqb a after) e in cc (eqb-true c cell (p .0), eqb-true a after (p .1))
 
-module _ (c : ℕ) where
-  abbrev dotsBehind : List ℕ → ℕ → DotsOperand
-  dotsBehind word n = dotsOperandAt true ((word ++ (32 ∷ escaped c)) ++ (32 ∷ dotsText n)) (length word + 11)
-
-  abbrev isBack : List ℕ → ℕ → Bool
-  isBack word n = isValue (dotsBehind word n) n (length word + 12 + length (dotsText n))
+module _ (c : ℕ) (word : List ℕ) where
+  abbrev dotsBehind : ℕ → DotsOperand
+  dotsBehind n = dotsOperandAt true ((word ++ (32 ∷ escaped c)) ++ (32 ∷ dotsText n)) (length word + 11)
 
   abbrev isListed : ℕ → Bool
-  isListed n = every isPlain (dotsText n) && (isBack (ascii "char") n && isBack (ascii "glyph") n)
+  isListed n = every isPlain (dotsText n) && isValue (dotsBehind n) n (length word + 12 + length (dotsText n))
 
-  all-listed : allBelow 256 isListed ≡ true
-  unfolding hexDigits dotsText raisedFrom dotsOperandAt wordAt firstAt firstFrom isBlank dotsAt cellAt endsAt digitsAt insideAt raise raiseInside raiseBy
-  all-listed = refl
-
-  module _ (n : ℕ) (h : n < 256) where
-    listed : Plain (dotsText n) × (isBack (ascii "char") n && isBack (ascii "glyph") n ≡ true)
-    listed = both (every isPlain (dotsText n)) _ (below 256 isListed all-listed n h)
+  module _ (all : allBelow 256 isListed ≡ true) (n : ℕ) (h : n < 256) where
+    listed : Plain (dotsText n) × (isValue (dotsBehind n) n (length word + 12 + length (dotsText n)) ≡ true)
+    listed = both (every isPlain (dotsText n)) _ (below 256 isListed all n h)
 
     pub dots-plain : Plain (dotsText n)
     dots-plain = listed .0
 
-    pub char-dots : dotsBehind (ascii "char") n ≡ D.Value n (16 + length (dotsText n))
-    char-dots = is-value (dotsBehind (ascii "char") n) n (16 + length (dotsText n)) (both (isBack (ascii "char") n) (isBack (ascii "glyph") n) (listed .1) .0)
+    pub dots-behind : dotsBehind n ≡ D.Value n (length word + 12 + length (dotsText n))
+    dots-behind = is-value (dotsBehind n) n (length word + 12 + length (dotsText n)) (listed .1)
 
-    pub glyph-dots : dotsBehind (ascii "glyph") n ≡ D.Value n (17 + length (dotsText n))
-    glyph-dots = is-value (dotsBehind (ascii "glyph") n) n (17 + length (dotsText n)) (both (isBack (ascii "char") n) (isBack (ascii "glyph") n) (listed .1) .1)
+pub all-listed : (c : ℕ) → (allBelow 256 (isListed c (ascii "char")) ≡ true) × (allBelow 256 (isListed c (ascii "glyph")) ≡ true)
+unfolding hexDigits dotsText raisedFrom dotsOperandAt wordAt firstAt firstFrom isBlank dotsAt cellAt endsAt digitsAt insideAt raise raiseInside raiseBy
+all-listed c = (refl, refl)

@@ -7,7 +7,7 @@ use lib.Seq.{sets}
 use lib.Dec.{ltb, eqb}
 use Rattle.basics.specs.Choice.{pick}
 
--- a hex digit, in lower case
+-- a hex digit, in lower case: `0` is byte 48, and ten is `a`, byte 97
 unfoldable pub hexDigit : ℕ → ℕ
 hexDigit d = pick (ltb d 10) (48 + d) (87 + d)
 

@@ -1,7 +1,7 @@
 // Numbers and cells as text, and texts put into a lent buffer, each at a place; the answer is the place behind it.
 ghost use mathlib.Core.Path.{_≡_};
 ghost use mathlib.Core.List.{[], _∷_};
-ghost use Prim.Native.Nat.{_+_, _≤_, _<_, _%_};
+ghost use Prim.Native.Nat.{_+_, _≤_, _%_};
 ghost use lib.ListN.{length, take};
 ghost use Rattle.writing.specs.Writing.{hexDigit, hexDigits, raisedFrom, dotsText, Put};
 
@@ -33,13 +33,13 @@ pub fn put_bytes(buffer: &mut [u8], at: usize, text: &[u8]) -> usize
     at + i
 }
 
-// The last hex digit of a number.
+// The last hex digit of a number; ten is `a`, byte 97.
 fn hex_digit(n: u32) -> u8
     ensures { λ r. ⌜ r ≡ hexDigit (n % 16) ⌝ }
 {
     let d = (n % 16) as u8;
     if d < 10 {
-        return 48 + d;
+        return b'0' + d;
     }
     87 + d
 }
@@ -59,7 +59,7 @@ pub fn hex_digits(n: u32) -> [u8; 8]
     digits
 }
 
-// The digits of the raised dots. Each digit is written; the next one takes its place unless its dot is raised.
+// The digits of the raised dots. Each digit is written, and the next one takes its place where its dot is not raised.
 fn raised_digits(cell: u8) -> Digits
     ensures { λ r. ⌜ (take (r .count) (r .bytes) ≡ raisedFrom 8 49 cell) × (r .count ≤ length (r .bytes)) ⌝ }
 {
@@ -68,7 +68,7 @@ fn raised_digits(cell: u8) -> Digits
     let mut left = cell;
     let mut i = 0u8;
     while i < 8 {
-        bytes[count] = 49 + i;
+        bytes[count] = b'1' + i;
         count += (left % 2) as usize;
         left /= 2;
         i += 1;
@@ -82,7 +82,7 @@ pub fn dots_digits(cell: u8) -> Digits
 {
     if cell == 0 {
         return Digits {
-            bytes: [48u8; 8],
+            bytes: [b'0'; 8],
             count: 1,
         };
     }

@@ -1,5 +1,7 @@
 use borrow.Author.Needs.{needs}
-use Rattle.listing.proofs.Lines.{typed-length, shown-length, alias-length}
+use Rattle.basics.proofs.Tests.{as-told}
+use Rattle.listing.specs.Internal.{lineLength}
+use Rattle.listing.proofs.Lines.{case-length}
 use Rattle.listing.proofs.line_length.Statement.{statement}
 use Rattle.listing.proofs.line_length.Tie as tie
 
@@ -9,6 +11,6 @@ line-length-spec =
     (tie.spec
     (λ c. search needs) (λ c κs. search needs) (λ c. search needs) (λ c. search needs) (λ c κs. search needs)
     (λ c. search needs) (λ c. search needs)
-    (λ c. (search typed-length, search needs))
-    (λ c. (search shown-length, search needs))
-    (λ c. (search alias-length, search needs)))
+    (λ c. (search (case-length 17), search needs))
+    (λ c. (search (case-length 18), search needs))
+    (λ c. (search (as-told lineLength), search needs)))
