@@ -12,27 +12,27 @@ use Rattle.definitions.specs.declared.Meaning.the-variants.{Typed, Shown, Alias
 use Rattle.definitions.specs.declared.Definition.{Definition}
 use Rattle.pairs.specs.Words.{meaningOf, definitions}
 use Rattle.pairs.proofs.Pairs.{rest, rest-all, rest-none, rest-more}
-use Rattle.writing.specs.Writing.{Put}
+use Rattle.writing.specs.Writing.{dotsText, Put}
 use Rattle.writing.proofs.Puts.{put-on, fits-first, fits-then, put-front}
 use Rattle.writing.proofs.Numerals.{digits-length}
-use Rattle.listing.specs.Listing.{escaped, directiveWord, operandText, lineOf, listing}
+use Rattle.listing.specs.Listing.{escaped, directiveWord, lineOf, listing}
 use Rattle.listing.specs.Internal.{wholeLine, lineLength}
 
--- beside its word and its operand a line has two blanks, the ten bytes of the character and the LF
-beside : (c : ℕ) (m : Meaning) → length (wholeLine c m) ≡ length (directiveWord m) + length (operandText m) + 13
-beside c m =
-    omega (
-      arith,
-      length-append (lineOf (record { character = c; meaning = m })) (10 ∷ []),
-      length-append (directiveWord m ++ (32 ∷ escaped c)) (32 ∷ operandText m),
-      length-append (directiveWord m) (32 ∷ escaped c),
-      digits-length 8 c,
-    )
+-- behind its word a line has a blank and the ten bytes of the character, a blank and the operand
+pub front-length : (word : List ℕ) (c : ℕ) → length (word ++ (32 ∷ escaped c)) ≡ length word + 11
+front-length word c = omega (arith, length-append word (32 ∷ escaped c), digits-length 8 c)
 
-line-length : (c : ℕ) (m : Meaning) → length (wholeLine c m) ≡ lineLength m
-line-length c (Typed n) = omega (arith, beside c (Typed n))
-line-length c (Shown n) = omega (arith, beside c (Shown n))
-line-length c (Alias t) = omega (arith, beside c (Alias t), digits-length 8 t)
+pub line-length : (word o : List ℕ) (c : ℕ) → length ((word ++ (32 ∷ escaped c)) ++ (32 ∷ o)) ≡ length word + 12 + length o
+line-length word o c = omega (arith, length-append (word ++ (32 ∷ escaped c)) (32 ∷ o), front-length word c)
+
+-- and its LF
+whole-length : (c : ℕ) (m : Meaning) → length (wholeLine c m) ≡ lineLength m
+whole-length c m = length-append (lineOf (record { character = c; meaning = m })) (10 ∷ []) ∙ go m
+  where
+    go : (m : Meaning) → length (lineOf (record { character = c; meaning = m })) + 1 ≡ lineLength m
+    go (Typed n) = omega (arith, line-length (directiveWord (Typed n)) (dotsText n) c)
+    go (Shown n) = omega (arith, line-length (directiveWord (Shown n)) (dotsText n) c)
+    go (Alias t) = omega (arith, line-length (directiveWord (Alias t)) (escaped t) c, digits-length 8 t)
 
 -- x is the case that a match told; k digits more
 pub case-length : (a : ℕ) {m x : Meaning} {k n : ℕ} → m ≡ x → k ≡ n → a + n ≡ lineLength x → a + k ≡ lineLength m
@@ -60,7 +60,7 @@ module _ (n i : ℕ) (ws : List ℕ) where
     pub sum-more : {m : Meaning} {k : ℕ} → i < n → 2 * n ≤ length ws → m ≡ meaningOf (getD ws (2 * i + 1) 0) → k ≡ lineLength m → x ≡ sum + k + length (listing (rest n (i + 1) ws))
     sum-more {m} h l p q =
         let all = rw (next-line h l p) at inv in
-        omega (arith, all, length-append (wholeLine (getD ws (2 * i) 0) m) (listing (rest n (i + 1) ws)), line-length (getD ws (2 * i) 0) m)
+        omega (arith, all, length-append (wholeLine (getD ws (2 * i) 0) m) (listing (rest n (i + 1) ws)), whole-length (getD ws (2 * i) 0) m)
 
     pub sum-all : n ≤ i → sum ≡ x
     sum-all h = let all = rw (no-line h) at inv in omega arith

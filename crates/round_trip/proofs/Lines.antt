@@ -4,7 +4,7 @@ use mathlib.Core.Path.{_≡_, refl, ap, _∙_}
 use mathlib.Core.Bool.{Bool, true, false}
 use mathlib.Core.List.{List, [], _∷_, _++_, append-assoc, append-nil}
 use native.Mathlib.Omega.{arith}
-use lib.ListN.{length, length-append}
+use lib.ListN.{length}
 use lib.Seq.{drop-length}
 use borrow.Author.Tests.{eq-eqb, le-ltb, leb-true}
 use Rattle.basics.specs.Ascii.{ascii}
@@ -26,6 +26,7 @@ use Rattle.operands.specs.declared.DotsOperand.the-variants as D
 use Rattle.writing.specs.Writing.{hexDigits, dotsText}
 use Rattle.writing.proofs.Numerals.{digits-length, dots-few}
 use Rattle.listing.specs.Listing.{escaped, directiveWord, operandText, lineOf}
+use Rattle.listing.proofs.Lines.{front-length, line-length}
 use Rattle.round_trip.proofs.Bytes.{isPlain, Plain, every-append, plain-utf8, digits-plain}
 use Rattle.round_trip.proofs.Operands.{ends-nil, ends-blank, character-behind, dots-plain, dots-behind, all-listed}
 
@@ -36,12 +37,6 @@ module _ (word o : List ℕ) (c : ℕ) where
 
   abbrev line : List ℕ
   line = front ++ (32 ∷ o)
-
-  front-length : length front ≡ length word + 11
-  front-length = omega (arith, length-append word (32 ∷ escaped c), digits-length 8 c)
-
-  line-length : length line ≡ length word + 12 + length o
-  line-length = omega (arith, length-append front (32 ∷ o), front-length)
 
   line-plain : Plain word → Plain o → Plain line
   line-plain p q = every-append isPlain front (32 ∷ o) (every-append isPlain word (32 ∷ escaped c) p (digits-plain c)) q
@@ -64,7 +59,7 @@ module _ (word : List ℕ) (charset c : ℕ) (h : isOperand c ≡ true) where
   alias-read : (t left : ℕ) → isOperand t ≡ true → aliasLine charset (line word (escaped t) c) (length word) left ≡ define c (Alias t) left
   unfolding aliasLine
   alias-read t left g =
-      let second = rw (append-nil (hexDigits 8 t), front-length word (escaped t) c) at (character-behind (front word (escaped t) c) [] t ends-nil charset g) in
+      let second = rw (append-nil (hexDigits 8 t), front-length word c) at (character-behind (front word (escaped t) c) [] t ends-nil charset g) in
       rw (character-read (escaped t), second) (ended word (escaped t) c _ left _ (omega (arith, line-length word (escaped t) c, digits-length 8 t)))
 
 module _ (charset : ℕ) (ds : List Definition) where
