@@ -1,0 +1,17 @@
+use borrow.Author.Rules.{rules}
+use Prim.Native.Nat.{◌-◌}
+use mathlib.Core.Path.{◌≡◌}
+use mathlib.Core.Logic.{⊎_elim}
+use native.Mathlib.Omega.{arith}
+use lib.ListN.{length}
+use Rattle.basics.proofs.Tests.{chosen}
+use Rattle.attributes.specs.Cells.{cell_by}
+use Rattle.attributes.proofs.Cells.{Summed, weight_fits, plus, sum_on, sum_over}
+use Rattle.attributes.proofs.cell_by.Given as goal
+
+-- the weights of the raised dots below i are summed
+abbrev pub invariant-loop-i : goal.invariant-loop-i
+invariant-loop-i l = (length l.places ≡ 8) × Summed (cell_by l.unnamed l.places l.byte) l.unnamed l.places l.byte l.cell l.i
+
+abbrev pub decreases-loop-i : goal.decreases-loop-i
+decreases-loop-i l = 8 - l.i

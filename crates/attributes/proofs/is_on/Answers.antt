@@ -1,0 +1,5 @@
+use borrow.Author.Rules.{rules}
+use Rattle.attributes.proofs.is_on.Goals as goal
+
+pub returns : goal.returns
+returns c = rw c.bit_of-bit.ensures.0

@@ -1,0 +1,16 @@
+use borrow.Author.Rules.{rules}
+use Rattle.attributes.proofs.Compile.{come_first, no_lines}
+use Rattle.lines.proofs.Texts.{Reached, lines_read, line_read, line_refused, text_accepted, text_refused}
+use Rattle.attributes.specs.Compile.{dot_step, compiled_attributes, outcome_places}
+use Rattle.attributes.specs.declared.DotStates.{DotStates}
+use mathlib.Core.Path.{refl}
+use lib.ListN.{length}
+use Prim.Native.Nat.{◌+◌, ◌-◌, ◌≤◌}
+use Rattle.attributes.proofs.read_lines.Given as goal
+
+-- what the text still gives from the places so far, which no more lines named than there are bytes before
+abbrev pub invariant-loop-at : goal.invariant-loop-at
+invariant-loop-at l = (l.states.lines ≤ l.at) × Reached dot_step l.text (compiled_attributes l.text) l.at l.line l.states
+
+abbrev pub decreases-loop-at : goal.decreases-loop-at
+decreases-loop-at l = length l.text + 1 - l.at

@@ -1,0 +1,6 @@
+use borrow.Author.Rules.{rules}
+use Rattle.attributes.proofs.Cells.{shifted}
+use Rattle.attributes.proofs.weight.Goals as goal
+
+pub returns : goal.returns
+returns c = search shifted

@@ -1,0 +1,6 @@
+use Rattle.blocks.proofs.Stacks.{stack_top}
+use borrow.Author.Rules.{rules}
+use Rattle.blocks.proofs.innermost.Goals as goal
+
+pub returns : goal.returns
+returns c = search stack_top

@@ -1,0 +1,6 @@
+use Rattle.characters.proofs.Characters.{no_word}
+use borrow.Author.Rules.{rules}
+use Rattle.characters.proofs.is_escape.Goals as goal
+
+pub returns-then-w-eq0 : goal.returns-then-w-eq0
+returns-then-w-eq0 c = search no_word

@@ -1,0 +1,16 @@
+use Prim.Native.Nat.{◌-◌, ◌≤◌}
+use mathlib.Core.Path.{◌≡◌, refl}
+use lib.ListN.{length, drop}
+use borrow.Author.Rules.{rules}
+use Rattle.basics.proofs.Tests.{chosen}
+use Rattle.basics.proofs.Loops.{next_element, no_element}
+use Rattle.dots.specs.Dots.{digits_at}
+use Rattle.dots.proofs.Cells.{on_raised}
+use Rattle.dots.proofs.digits_at.Given as goal
+
+-- the digits from i on, with the dots raised before it, answer what all answer
+abbrev pub invariant-loop-i : goal.invariant-loop-i
+invariant-loop-i l = (l.i ≤ length l.line) × (digits_at (drop l.i l.line) l.i l.cell ≡ digits_at (drop l.at l.line) l.at 0)
+
+abbrev pub decreases-loop-i : goal.decreases-loop-i
+decreases-loop-i l = length l.line - l.i

@@ -1,0 +1,16 @@
+use Prim.Native.Nat.{◌-◌, ◌≤◌}
+use mathlib.Core.Path.{◌≡◌, refl}
+use lib.ListN.{length, drop}
+use borrow.Author.Rules.{rules}
+use Rattle.basics.proofs.Tests.{tests}
+use Rattle.basics.proofs.Loops.{next_element, no_element}
+use Rattle.utf8.specs.Internal.{ascii_end, resume_from}
+use Rattle.utf8.specs.declared.Utf8State.TheVariants.{Between}
+use Rattle.utf8.proofs.after_ascii.Given as goal
+
+-- the bytes from `from` to i are ASCII, so the run ends where it does from i on
+abbrev pub invariant-loop-i : goal.invariant-loop-i
+invariant-loop-i l = (l.from ≤ l.i) × (l.i ≤ length l.line) × (resume_from (drop l.i l.line) l.i Between ≡ resume_from (drop l.from l.line) l.from Between)
+
+abbrev pub decreases-loop-i : goal.decreases-loop-i
+decreases-loop-i l = length l.line - l.i
