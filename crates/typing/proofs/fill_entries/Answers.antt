@@ -6,6 +6,7 @@ use Rattle.pairs.specs.Words.{definitions}
 use Rattle.typing.specs.Typing.{filled_from, entries_of}
 use Rattle.typing.proofs.Calls.{scan_on, scan_over}
 use Rattle.typing.proofs.fill_entries.Goals as goal
+use Rattle.typing.proofs.fill_entries.Goals.{in-Typed, in-Shown, in-Alias}
 
 pub loop-i-init : goal.loop-i-init
 unfolding filled_from definitions
@@ -16,10 +17,11 @@ loop-i-preserved c =
     let here = c.loop-i.invariant.1 in
     let means = c.meaning_of-m.ensures in (
       search rules,
-      ⊎_elim
-          (λ w. scan_on _ _ here (search rules) means w.1.given.1 (rw w.5.ensures at w.6))
-          (⊎_elim (λ w. scan_on _ _ here (search rules) means w.1.given.1 w.2) (λ w. scan_on _ _ here (search rules) means w.1.given.1 w.2))
-          c.in-Typed.branch,
+      elim c.match-m.branch [
+        in-Typed w ↦ scan_on _ _ here (search rules) means w.in-Typed.is (rw w.keep.ensures at w.entries-is)
+        | in-Shown w ↦ scan_on _ _ here (search rules) means w.in-Shown.is w.entries-is
+        | in-Alias w ↦ scan_on _ _ here (search rules) means w.in-Alias.is w.entries-is
+      ],
     )
 
 pub returns : goal.returns
