@@ -1,6 +1,5 @@
 use Rattle.basics.proofs.Tests.{tests, on_character}
 use Rattle.operands.proofs.Operands.{by_word}
-use borrow.Author.Rules.{rules}
 use Rattle.operands.proofs.character_at.Goals as goal
 
 pub returns-then-start-end-clause-value : goal.returns-then-start-end-clause-value

@@ -1,6 +1,5 @@
 use Rattle.basics.proofs.Tests.{tests}
 use Rattle.operands.proofs.Operands.{cell_within, by_dots_word, on_dots}
-use borrow.Author.Rules.{rules}
 use Rattle.operands.proofs.dots_operand_at.Goals as goal
 
 pub returns-then-start-end-clause-value : goal.returns-then-start-end-clause-value
