@@ -1,13 +1,15 @@
 // Reads a text table in ISO 8859-1 from standard input and writes what compiling answers, on one line.
-use libc::{STDIN_FILENO, STDOUT_FILENO};
+#![tactic(auto)]
 
-fn main() {
+use std::io;
+
+fn main(rt: HostRuntime) -> io::Result<()> {
     // One byte more than a text may have, so that a longer one is seen to be too long.
     let mut text = [0u8; lines::TEXT_LIMIT + 1];
-    let n = io::read_full(STDIN_FILENO, &mut text);
+    let n = input::read_full(&mut rt.reader(), &mut text)?;
     let mut words = [0u32; table::TABLE_WORDS];
     let line = report::report(compiler::compile(scalars::ISO_8859_1, &text[..n], &mut words));
     let bytes = line.bytes;
     let length = line.length;
-    io::write_all(STDOUT_FILENO, &bytes[..length]);
+    rt.write_all(&bytes[..length])
 }

@@ -1,6 +1,8 @@
 // Runs the cases of standard input, writes each answer that differs from the one expected, then how many there were.
+#![tactic(auto)]
+
 use answers::Text;
-use libc::{STDIN_FILENO, STDOUT_FILENO};
+use std::io;
 
 // More than the cases take; an input that fills it is told.
 const BUFFER: usize = 262144;
@@ -15,59 +17,52 @@ struct Tally {
 
 // One more; no input is long enough for a count to wrap.
 fn next(n: u64) -> u64 {
-    std::num::wrapping_add_u64(n, 1)
+    n.wrapping_add(1)
 }
 
-fn write_difference(line: u64, answer: Text) {
-    io::write_all(STDOUT_FILENO, b"line ");
-    io::print_decimal(STDOUT_FILENO, line);
-    io::write_all(STDOUT_FILENO, b": got ");
-    answers::write(answer);
-    io::write_all(STDOUT_FILENO, b"\n");
+fn write_difference(rt: &impl Print, line: u64, answer: Text) -> io::Result<()> {
+    print!(rt; "line {line}: got ")?;
+    answers::write(rt, answer)?;
+    rt.write_all(b"\n")
 }
 
-fn write_summary(t: Tally) {
-    io::print_decimal(STDOUT_FILENO, t.cases);
-    io::write_all(STDOUT_FILENO, b" cases, ");
-    io::print_decimal(STDOUT_FILENO, t.differ);
-    io::write_all(STDOUT_FILENO, b" differ\n");
+fn write_summary(rt: &impl Print, t: Tally) -> io::Result<()> {
+    println!(rt; "{} cases, {} differ", t.cases, t.differ)
 }
 
 // The tally with one line more; a line that is empty or a comment is no case.
-fn with_line(t: Tally, line: &[u8]) -> Tally {
+fn with_line(rt: &impl Print, t: Tally, line: &[u8]) -> io::Result<Tally> {
     let lines = next(t.lines);
     if lines::is_over(line, 0) {
-        return Tally {
+        return Ok(Tally {
             lines,
             cases: t.cases,
             differ: t.differ,
-        };
+        });
     }
     let cases = next(t.cases);
     let answer = cases::answer(line);
     if answers::is_text(answer, cases::expected(line)) {
-        return Tally {
+        return Ok(Tally {
             lines,
             cases,
             differ: t.differ,
-        };
+        });
     }
-    write_difference(lines, answer);
-    Tally {
+    write_difference(rt, lines, answer)?;
+    Ok(Tally {
         lines,
         cases,
         differ: next(t.differ),
-    }
+    })
 }
 
 // Says that the input fills the buffer: what lies behind it was not read.
-fn write_full(length: usize) {
-    io::write_all(STDOUT_FILENO, b"the input fills the buffer of ");
-    io::print_decimal(STDOUT_FILENO, length as u64);
-    io::write_all(STDOUT_FILENO, b" bytes: what lies behind it was not read\n");
+fn write_full(rt: &impl Print, length: usize) -> io::Result<()> {
+    println!(rt; "the input fills the buffer of {length} bytes: what lies behind it was not read")
 }
 
-fn run(file: &[u8]) {
+fn run(rt: &impl Print, file: &[u8]) -> io::Result<()> {
     let mut t = Tally {
         lines: 0,
         cases: 0,
@@ -76,17 +71,18 @@ fn run(file: &[u8]) {
     let mut at = 0;
     while at < file.len() {
         let end = lines::line_end(file, at);
-        t = with_line(t, &file[at..end]);
+        t = with_line(rt, t, &file[at..end])?;
         at = end + 1;
     }
-    write_summary(t);
+    write_summary(rt, t)
 }
 
-fn main() {
+fn main(rt: HostRuntime) -> io::Result<()> {
     let mut file = [0u8; BUFFER];
-    let n = io::read_full(STDIN_FILENO, &mut file);
-    run(&file[..n]);
+    let n = input::read_full(&mut rt.reader(), &mut file)?;
+    run(&rt, &file[..n])?;
     if n == BUFFER {
-        write_full(n);
+        write_full(&rt, n)?;
     }
+    Ok(())
 }
