@@ -1,4 +1,4 @@
-//! Links libheathdapple.a from ../../target/staticlib, or from the folder that HEATHDAPPLE_LIB_DIR names.
+//! Links libheathdapple.a from ../../crates/heathdapple/out, or from the folder that HEATHDAPPLE_LIB_DIR names.
 
 use std::env;
 use std::path::PathBuf;
@@ -10,12 +10,12 @@ fn main() {
     let here = PathBuf::from(env::var_os("CARGO_MANIFEST_DIR").expect("cargo names the manifest's folder"));
     let folder = match env::var_os("HEATHDAPPLE_LIB_DIR") {
         Some(folder) if !folder.is_empty() => here.join(folder),
-        _ => here.join("../../target/staticlib"),
+        _ => here.join("../../crates/heathdapple/out"),
     };
     let archive = folder.join("libheathdapple.a");
     if !archive.is_file() {
         eprintln!("error: there is no {}", archive.display());
-        eprintln!("Build it by `rt staticlib heathdapple` in the repository root (harness/run does so),");
+        eprintln!("Build it by `rt lib` in the folder crates/heathdapple (harness/run does so),");
         eprintln!("or name the folder that holds libheathdapple.a in HEATHDAPPLE_LIB_DIR.");
         exit(1);
     }

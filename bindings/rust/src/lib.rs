@@ -28,7 +28,7 @@
 //! assert_eq!(refusal.to_string(), "line 3, column 10: character, byte or dot already defined (refusal 11)");
 //! ```
 //!
-//! Linking needs `libheathdapple.a`: `rt staticlib heathdapple` in the repository's root builds it, and
+//! Linking needs `libheathdapple.a`: `rt lib` in the folder `crates/heathdapple` builds it, and
 //! `HEATHDAPPLE_LIB_DIR` names another folder that holds it.
 
 #![deny(missing_docs)]

@@ -1,4 +1,6 @@
 // What every call shares: the refusals by name and number, a character that there may be, the answer of a call that fills.
+#![tactic(auto)]
+
 ghost use Rattle.std.specs.Prelude.{◌≡◌};
 ghost use Rattle.basics.specs.Refusals.{number_of};
 

@@ -1,4 +1,6 @@
 // Open blocks: which half of each is taken, whether its `else` is past, and the line that opened it.
+#![tactic(auto)]
+
 ghost use Rattle.std.specs.Prelude.{◌≡◌, ◌∷◌, ℕ, ◌-◌, ◌<◌, ◌≤◌};
 ghost use Rattle.blocks.specs.Blocks.{depth_limit, is_taken, around_of, inert};
 ghost use Rattle.blocks.specs.Internal.{stack, no_blocks, blocks_of, starts_of, RoomFor, Changed};

@@ -1,4 +1,6 @@
 // A word as a character or byte operand: what it spells, and the character or byte that it stands for.
+#![tactic(auto)]
+
 ghost use Rattle.std.specs.Prelude.{◌≡◌, ◌+◌, ◌*◌, ◌%◌, ◌≤◌, length};
 ghost use Rattle.characters.specs.Characters.{no_number, digit_of, with_digit, digits_from, plain_of, short_of, radix_of, word_number, character_of, operand_of, is_unicode_escape, is_escape, byte_of, byte_character_of};
 ghost use Rattle.basics.specs.Choice.{pick};

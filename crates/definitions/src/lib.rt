@@ -1,4 +1,6 @@
 // A definition, and what a table has for a character.
+#![tactic(auto)]
+
 ghost use Rattle.std.specs.Prelude.{◌≡◌};
 ghost use Rattle.definitions.specs.Definitions.{cell_of, target_of, types};
 

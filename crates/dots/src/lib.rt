@@ -1,4 +1,6 @@
 // Dots from the position of their first byte on: a cell, bare or in parentheses.
+#![tactic(auto)]
+
 ghost use Rattle.std.specs.Prelude.{◌≡◌, ◌+◌, ◌%◌, ◌/◌, ◌≤◌, ◌<◌, length, drop};
 ghost use Rattle.basics.specs.Choice.{pick};
 ghost use Rattle.dots.specs.Dots.{raise_by, raise, raise_inside, ends_at, digits_at, inside_at, cell_at, dots_at};

@@ -1,4 +1,6 @@
 // The lines of a text, the words of a line, the column of a fault, and what every compile call answers.
+#![tactic(auto)]
+
 ghost use Rattle.std.specs.Prelude.{◌≡◌, ◌≤◌, length};
 ghost use Rattle.lines.specs.Lines.{without_cr};
 ghost use Rattle.lines.specs.Words.{is_blank, same_bytes, is_over};

@@ -1,4 +1,6 @@
 // A table listed back as text: a line a definition, in order.
+#![tactic(auto)]
+
 ghost use Rattle.std.specs.Prelude.{◌≡◌, ◌∷◌, ◌+◌, ◌*◌, ◌≤◌, length};
 ghost use Rattle.basics.specs.Buffers.{over};
 ghost use Rattle.definitions.specs.Effects.{definition_limit};

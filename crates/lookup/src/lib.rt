@@ -1,4 +1,6 @@
 // From a character to its cell: the lookup call and the page call.
+#![tactic(auto)]
+
 ghost use Rattle.std.specs.Prelude.{◌≡◌, map, ◌*◌, ◌≤◌, length};
 ghost use Rattle.basics.specs.Refusals.{filling_reply};
 ghost use Rattle.basics.specs.Buffers.{over};

@@ -1,5 +1,7 @@
 // A table with an order of its pairs: the rules are those of `rules`, a character is found by halving, and the table is
 // checked by its order. A count is that of the pairs that count as definitions.
+#![tactic(auto)]
+
 ghost use Rattle.std.specs.Prelude.{◌≡◌, [], ◌*◌, ◌≤◌, ◌<◌, length, take};
 ghost use Rattle.definitions.specs.Definitions.{find, found_in};
 ghost use Rattle.definitions.specs.Effects.{definition_limit, closes_loop};

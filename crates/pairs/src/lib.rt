@@ -1,5 +1,7 @@
 // The pairs of words that are definitions: what is found for a character, its alias walk, what refuses a definition.
 // A count is that of the pairs that count as definitions.
+#![tactic(auto)]
+
 ghost use Rattle.std.specs.Prelude.{◌≡◌, ◌*◌, ◌≤◌, length};
 ghost use Rattle.definitions.specs.Definitions.{find, found_in, explicit};
 ghost use Rattle.definitions.specs.Effects.{closes_loop, verdict_of};

@@ -1,4 +1,6 @@
 // From a character to its cell: the nine rules.
+#![tactic(auto)]
+
 ghost use Rattle.std.specs.Prelude.{◌≡◌, ◌+◌, ◌*◌, ◌≤◌, ◌<◌, length};
 ghost use Rattle.scalars.specs.Characters.{is_private, local_of};
 ghost use Rattle.pairs.specs.Words.{charset_of, table_of};

@@ -1,4 +1,6 @@
 // Characters: scalar values, the two rows, the local character sets, base characters, ASCII stand-ins.
+#![tactic(auto)]
+
 ghost use Rattle.std.specs.Prelude.{◌≡◌, ◌≤◌, length};
 ghost use Rattle.scalars.specs.Internal.{EightBits};
 ghost use Rattle.scalars.specs.Characters.{is_scalar, is_braille, is_private, is_operand, is_charset, as_byte, character_by, byte_by, local_character, local_byte, local_of, stands_for, base_of, stand_in_of};

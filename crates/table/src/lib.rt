@@ -1,5 +1,7 @@
 // A compiled table: 2,050 words of a lent slice, two a definition, then the local character set and a zero. A count is that
 // of the pairs that count as definitions.
+#![tactic(auto)]
+
 ghost use Rattle.std.specs.Prelude.{◌≡◌, [], ◌∷◌, ◌++◌, ◌+◌, ◌*◌, ◌≤◌, ◌<◌, length, drop, set, replicate};
 ghost use Rattle.basics.specs.Internal.{bits_of};
 ghost use Rattle.definitions.specs.Effects.{definition_limit};

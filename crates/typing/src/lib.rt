@@ -1,4 +1,6 @@
 // From a typed cell to its character.
+#![tactic(auto)]
+
 ghost use Rattle.std.specs.Prelude.{◌≡◌, ◌*◌, ◌≤◌, length, replicate};
 ghost use Rattle.basics.specs.Refusals.{filling_reply};
 ghost use Rattle.pairs.specs.Words.{definitions};

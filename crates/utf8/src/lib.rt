@@ -1,4 +1,6 @@
 // Whether a line is UTF-8, and where it is not.
+#![tactic(auto)]
+
 ghost use Rattle.std.specs.Prelude.{◌≡◌, ◌≤◌, length};
 ghost use Rattle.basics.specs.Internal.{bits_of};
 ghost use Rattle.utf8.specs.Utf8.{after_first, after_further, after_byte, at_end, utf8};

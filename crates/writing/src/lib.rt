@@ -1,4 +1,6 @@
 // Numbers and cells as text, and texts put into a lent buffer, each at a place; the answer is the place behind it.
+#![tactic(auto)]
+
 ghost use Rattle.std.specs.Prelude.{◌≡◌, [], ◌∷◌, ◌+◌, ◌≤◌, ◌%◌, length, take};
 ghost use Rattle.writing.specs.Writing.{hex_digit, hex_digits, raised_from, dots_text, Put};
 

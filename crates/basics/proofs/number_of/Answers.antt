@@ -1,6 +1,5 @@
 use Rattle.basics.proofs.Tests.{as_told}
 use Rattle.basics.specs.Refusals.{number_of}
-use borrow.Author.Rules.{rules}
 use Rattle.basics.proofs.number_of.Goals as goal
 
 pub returns-in-TextTooLong : goal.returns-in-TextTooLong

@@ -1,5 +1,4 @@
 use Rattle.blocks.proofs.Stacks.{around_none, around_some}
-use borrow.Author.Rules.{rules}
 use Rattle.blocks.proofs.around_of.Goals as goal
 
 pub returns-then-depth-eq0 : goal.returns-then-depth-eq0

@@ -1,5 +1,4 @@
 use Rattle.blocks.proofs.Stacks.{room_told, changed_as}
-use borrow.Author.Rules.{rules}
 use Rattle.blocks.proofs.blocks_after.Goals as goal
 
 pub opened-requires : goal.opened-requires

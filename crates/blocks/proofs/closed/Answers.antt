@@ -1,5 +1,4 @@
 use Rattle.blocks.proofs.Stacks.{closed_none, closed_changed}
-use borrow.Author.Rules.{rules}
 use Rattle.blocks.proofs.closed.Goals as goal
 
 pub returns-then-depth-eq0 : goal.returns-then-depth-eq0

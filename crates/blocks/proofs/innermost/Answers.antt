@@ -1,5 +1,4 @@
 use Rattle.blocks.proofs.Stacks.{stack_top}
-use borrow.Author.Rules.{rules}
 use Rattle.blocks.proofs.innermost.Goals as goal
 
 pub returns : goal.returns

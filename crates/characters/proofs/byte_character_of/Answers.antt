@@ -2,7 +2,6 @@ use Rattle.basics.proofs.Tests.{chosen, on_character}
 use Rattle.scalars.proofs.Charsets.{eight_bits}
 use Rattle.characters.specs.Characters.{byte_character_of}
 use Rattle.characters.proofs.Characters.{its_character}
-use borrow.Author.Rules.{rules}
 use Rattle.characters.proofs.byte_character_of.Goals as goal
 
 pub returns-then-is_unicode_escape : goal.returns-then-is_unicode_escape

@@ -1,4 +1,3 @@
-use borrow.Author.Rules.{rules}
 use Rattle.basics.proofs.Tests.{chosen}
 use Rattle.characters.proofs.Characters.{by_number}
 use Rattle.characters.proofs.character_of.Goals as goal

@@ -1,6 +1,5 @@
 use Rattle.basics.proofs.Tests.{tests}
 use Rattle.characters.specs.Characters.{digit_of}
-use borrow.Author.Rules.{rules}
 use Rattle.characters.proofs.digit_of.Goals as goal
 
 pub returns-then-b-lt48 : goal.returns-then-b-lt48

@@ -1,9 +1,6 @@
 use borrow.Author.Rules.{rules}
-use Rattle.characters.specs.Characters.{digits_from}
 use Rattle.characters.proofs.Characters.{digits_on, digits_none}
-use Prim.Native.Nat.{◌-◌, ◌≤◌}
-use lib.ListN.{length, drop}
-use mathlib.Core.Path.{◌≡◌, refl}
+use mathlib.Core.Path.{refl}
 use Rattle.characters.proofs.digits_of.Goals as goal
 
 pub loop-i-init : goal.loop-i-init

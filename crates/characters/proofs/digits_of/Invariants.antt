@@ -1,9 +1,7 @@
-use borrow.Author.Rules.{rules}
 use Rattle.characters.specs.Characters.{digits_from}
-use Rattle.characters.proofs.Characters.{digits_on, digits_none}
 use Prim.Native.Nat.{◌-◌, ◌≤◌}
 use lib.ListN.{length, drop}
-use mathlib.Core.Path.{◌≡◌, refl}
+use mathlib.Core.Path.{◌≡◌}
 use Rattle.characters.proofs.digits_of.Given as goal
 
 -- the digits from i on, behind the number before them, are the whole number

@@ -1,5 +1,4 @@
 use Rattle.characters.proofs.Characters.{no_word}
-use borrow.Author.Rules.{rules}
 use Rattle.characters.proofs.is_escape.Goals as goal
 
 pub returns-then-w-eq0 : goal.returns-then-w-eq0

@@ -1,6 +1,5 @@
 use Rattle.characters.proofs.Characters.{no_escape}
 use Rattle.basics.proofs.Tests.{tests}
-use borrow.Author.Rules.{rules}
 use Rattle.characters.proofs.is_unicode_escape.Goals as goal
 
 pub returns-then-w-lt2 : goal.returns-then-w-lt2

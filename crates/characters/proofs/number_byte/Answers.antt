@@ -1,5 +1,4 @@
 use Rattle.basics.proofs.Tests.{chosen}
-use borrow.Author.Rules.{rules}
 use Rattle.characters.proofs.number_byte.Goals as goal
 
 pub returns-then-escape-clause-value : goal.returns-then-escape-clause-value

@@ -1,7 +1,6 @@
 use Rattle.basics.proofs.Tests.{on_character}
 use Rattle.characters.specs.Characters.{operand_of}
 use Rattle.characters.proofs.Characters.{its_character}
-use borrow.Author.Rules.{rules}
 use Rattle.characters.proofs.operand_of.Goals as goal
 
 pub returns-in-Nothing : goal.returns-in-Nothing

@@ -1,6 +1,5 @@
 use Rattle.basics.proofs.Tests.{tests}
 use Rattle.characters.specs.Characters.{plain_of}
-use borrow.Author.Rules.{rules}
 use Rattle.characters.proofs.plain_of.Goals as goal
 
 pub returns-then-n-eq1 : goal.returns-then-n-eq1

@@ -1,4 +1,3 @@
-use borrow.Author.Rules.{rules}
 use Rattle.characters.proofs.three.Goals as goal
 
 pub returns : goal.returns

@@ -1,7 +1,6 @@
 use Rattle.basics.proofs.Tests.{tests}
 use Rattle.characters.proofs.Characters.{number_empty, number_cut, number_short, number_digits}
 use Rattle.characters.specs.Characters.{word_number}
-use borrow.Author.Rules.{rules}
 use Rattle.characters.proofs.word_number.Goals as goal
 
 pub returns-then-n-eq0 : goal.returns-then-n-eq0

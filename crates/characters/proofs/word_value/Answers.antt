@@ -1,5 +1,4 @@
 use Rattle.basics.proofs.Tests.{chosen}
-use borrow.Author.Rules.{rules}
 use Rattle.characters.proofs.word_value.Goals as goal
 
 pub returns-then-byte : goal.returns-then-byte

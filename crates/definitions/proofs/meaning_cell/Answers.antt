@@ -1,4 +1,3 @@
-use borrow.Author.Rules.{rules}
 use Rattle.definitions.proofs.meaning_cell.Goals as goal
 
 pub returns-in-Typed : goal.returns-in-Typed

@@ -1,4 +1,3 @@
-use borrow.Author.Rules.{rules}
 use Rattle.definitions.proofs.meaning_target.Goals as goal
 
 pub returns-in-Alias : goal.returns-in-Alias

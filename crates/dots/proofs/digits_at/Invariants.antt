@@ -1,11 +1,7 @@
 use Prim.Native.Nat.{◌-◌, ◌≤◌}
-use mathlib.Core.Path.{◌≡◌, refl}
+use mathlib.Core.Path.{◌≡◌}
 use lib.ListN.{length, drop}
-use borrow.Author.Rules.{rules}
-use Rattle.basics.proofs.Tests.{chosen}
-use Rattle.basics.proofs.Loops.{next_element, no_element}
 use Rattle.dots.specs.Dots.{digits_at}
-use Rattle.dots.proofs.Cells.{on_raised}
 use Rattle.dots.proofs.digits_at.Given as goal
 
 -- the digits from i on, with the dots raised before it, answer what all answer

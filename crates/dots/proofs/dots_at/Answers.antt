@@ -1,4 +1,3 @@
-use mathlib.Core.Logic.{⊎_elim}
 use borrow.Author.Rules.{rules}
 use Rattle.basics.proofs.Tests.{chosen, tests}
 use Rattle.dots.specs.Dots.{dots_at}

@@ -1,11 +1,7 @@
 use Prim.Native.Nat.{◌-◌, ◌≤◌}
-use mathlib.Core.Path.{◌≡◌, refl}
+use mathlib.Core.Path.{◌≡◌}
 use lib.ListN.{length, drop}
-use borrow.Author.Rules.{rules}
-use Rattle.basics.proofs.Tests.{tests}
-use Rattle.basics.proofs.Loops.{next_element, no_element}
 use Rattle.dots.specs.Dots.{inside_at}
-use Rattle.dots.proofs.Cells.{on_raised}
 use Rattle.dots.proofs.inside_at.Given as goal
 
 -- what is inside from i on, with the dots raised before it, answers what all of it answers

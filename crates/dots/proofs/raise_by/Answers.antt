@@ -1,6 +1,5 @@
 use Rattle.basics.proofs.Tests.{tests}
 use Rattle.dots.specs.Dots.{raise_by}
-use borrow.Author.Rules.{rules}
 use Rattle.dots.proofs.raise_by.Goals as goal
 
 pub overflow_add-result : goal.overflow_add-result

@@ -1,6 +1,5 @@
 use Rattle.dots.specs.Dots.{raise}
 use Rattle.dots.proofs.Cells.{as_dot, raise_none}
-use borrow.Author.Rules.{rules}
 use Rattle.dots.proofs.raise_dot.Goals as goal
 
 pub returns-in-49 : goal.returns-in-49

@@ -1,5 +1,4 @@
 use Rattle.basics.proofs.Tests.{chosen}
-use borrow.Author.Rules.{rules}
 use Rattle.dots.specs.Dots.{raise_inside}
 use Rattle.dots.proofs.raise_inside.Goals as goal
 

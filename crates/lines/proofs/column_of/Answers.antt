@@ -1,6 +1,5 @@
 use Rattle.lines.proofs.Lines.{column_at}
 use native.Mathlib.Omega.{arith}
-use borrow.Author.Rules.{rules}
 use Rattle.lines.proofs.column_of.Goals as goal
 
 pub returns-then-left-n : goal.returns-then-left-n

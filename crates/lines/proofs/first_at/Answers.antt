@@ -1,9 +1,7 @@
 use borrow.Author.Rules.{rules}
-use Rattle.lines.specs.Words.{first_at, first_from}
+use Rattle.lines.specs.Words.{first_at}
 use Rattle.lines.proofs.Words.{first_here, first_on, first_none}
-use lib.ListN.{length, drop}
-use Prim.Native.Nat.{◌-◌, ◌≤◌}
-use mathlib.Core.Path.{◌≡◌, refl}
+use mathlib.Core.Path.{refl}
 use Rattle.lines.proofs.first_at.Goals as goal
 
 pub loop-i-init : goal.loop-i-init

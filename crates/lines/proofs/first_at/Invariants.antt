@@ -1,9 +1,7 @@
-use borrow.Author.Rules.{rules}
 use Rattle.lines.specs.Words.{first_at, first_from}
-use Rattle.lines.proofs.Words.{first_here, first_on, first_none}
 use lib.ListN.{length, drop}
 use Prim.Native.Nat.{◌-◌, ◌≤◌}
-use mathlib.Core.Path.{◌≡◌, refl}
+use mathlib.Core.Path.{◌≡◌}
 use Rattle.lines.proofs.first_at.Given as goal
 
 -- the scan from i on answers what the whole does

@@ -1,6 +1,5 @@
 use Rattle.lines.proofs.Openings.{over_at_lem}
 use Rattle.basics.proofs.Tests.{tests}
-use borrow.Author.Rules.{rules}
 use Rattle.lines.proofs.is_over.Goals as goal
 
 pub returns-then-start-end : goal.returns-then-start-end

@@ -1,9 +1,6 @@
 use borrow.Author.Rules.{rules}
-use Rattle.lines.specs.Internal.{to_lf}
 use Rattle.lines.proofs.Lines.{end_here, end_on, end_none}
-use lib.ListN.{length, drop}
-use Prim.Native.Nat.{◌+◌, ◌-◌, ◌≤◌}
-use mathlib.Core.Path.{◌≡◌, refl}
+use mathlib.Core.Path.{refl}
 use Rattle.lines.proofs.line_end.Goals as goal
 
 pub loop-i-init : goal.loop-i-init

@@ -1,9 +1,7 @@
-use borrow.Author.Rules.{rules}
 use Rattle.lines.specs.Internal.{to_lf}
-use Rattle.lines.proofs.Lines.{end_here, end_on, end_none}
 use lib.ListN.{length, drop}
 use Prim.Native.Nat.{◌+◌, ◌-◌, ◌≤◌}
-use mathlib.Core.Path.{◌≡◌, refl}
+use mathlib.Core.Path.{◌≡◌}
 use Rattle.lines.proofs.line_end.Given as goal
 
 -- no LF stands before i

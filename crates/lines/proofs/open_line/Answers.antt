@@ -1,7 +1,6 @@
 use Rattle.basics.proofs.Tests.{tests, chosen}
 use Rattle.lines.specs.Texts.{opening_of}
 use Rattle.lines.proofs.Openings.{bad_within, opened}
-use borrow.Author.Rules.{rules}
 use Rattle.lines.proofs.open_line.Goals as goal
 
 pub returns-then-n-gt-LINE_LIMIT : goal.returns-then-n-gt-LINE_LIMIT

@@ -1,9 +1,5 @@
-use borrow.Author.Rules.{rules}
-use Rattle.lines.specs.Words.{same_bytes}
 use Rattle.lines.proofs.Words.{same_on, same_not, same_longer, same_over}
-use lib.ListN.{length, drop}
-use Prim.Native.Nat.{◌-◌}
-use mathlib.Core.Path.{◌≡◌, refl}
+use mathlib.Core.Path.{refl}
 use Rattle.lines.proofs.same_bytes.Goals as goal
 
 pub loop-i-init : goal.loop-i-init

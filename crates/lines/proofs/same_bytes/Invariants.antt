@@ -1,9 +1,7 @@
-use borrow.Author.Rules.{rules}
 use Rattle.lines.specs.Words.{same_bytes}
-use Rattle.lines.proofs.Words.{same_on, same_not, same_longer, same_over}
 use lib.ListN.{length, drop}
 use Prim.Native.Nat.{◌-◌}
-use mathlib.Core.Path.{◌≡◌, refl}
+use mathlib.Core.Path.{◌≡◌}
 use Rattle.lines.proofs.same_bytes.Given as goal
 
 -- the bytes before i are the same

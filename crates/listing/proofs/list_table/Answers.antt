@@ -1,4 +1,3 @@
-use borrow.Author.Rules.{rules}
 use Rattle.table.proofs.Lent.{lent_fits}
 use Rattle.listing.proofs.Calls.{list_short, list_fault, sound_limit, list_long, list_fits, list_written}
 use Rattle.listing.proofs.list_table.Goals as goal

@@ -1,4 +1,3 @@
-use borrow.Author.Rules.{rules}
 use Prim.Native.Nat.{◌+◌, ◌*◌, ◌-◌, ◌≤◌}
 use mathlib.Core.Path.{◌≡◌}
 use lib.ListN.{length}
@@ -6,7 +5,6 @@ use Rattle.definitions.specs.Effects.{definition_limit}
 use Rattle.pairs.specs.Words.{definitions}
 use Rattle.pairs.proofs.Pairs.{rest}
 use Rattle.listing.specs.Listing.{listing}
-use Rattle.listing.proofs.Lines.{sum_first, sum_more, sum_all}
 use Rattle.listing.proofs.listing_length.Given as goal
 
 -- the lines before pair i are counted, 28 bytes each at most

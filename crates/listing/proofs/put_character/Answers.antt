@@ -1,4 +1,3 @@
-use borrow.Author.Rules.{rules}
 use mathlib.Core.List.{[], ◌∷◌}
 use Rattle.listing.proofs.Parts.{digits_fit, digits_put}
 use Rattle.listing.proofs.put_character.Goals as goal

@@ -1,4 +1,3 @@
-use borrow.Author.Rules.{rules}
 use Rattle.listing.proofs.Parts.{word_fits, character_fits, operand_fits, end_fits, line_put}
 use Rattle.listing.proofs.put_line.Goals as goal
 

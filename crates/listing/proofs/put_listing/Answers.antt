@@ -1,12 +1,5 @@
 use borrow.Author.Rules.{rules}
-use Prim.Native.Nat.{◌+◌, ◌*◌, ◌-◌, ◌≤◌}
-use mathlib.Core.Path.{◌≡◌}
 use native.Mathlib.Omega.{arith}
-use lib.ListN.{length}
-use lib.Seq.{sets}
-use Rattle.pairs.specs.Words.{definitions}
-use Rattle.pairs.proofs.Pairs.{rest}
-use Rattle.listing.specs.Listing.{listing}
 use Rattle.listing.proofs.Lines.{put_first, room_first, next_fits, next_put, all_put}
 use Rattle.listing.proofs.put_listing.Goals as goal
 

@@ -1,4 +1,3 @@
-use borrow.Author.Rules.{rules}
 use Rattle.definitions.specs.declared.Meaning.TheVariants.{Typed, Shown, Alias}
 use Rattle.listing.specs.Listing.{directive_word}
 use Rattle.listing.proofs.Parts.{case_fits, case_put}

@@ -1,10 +1,6 @@
 use borrow.Author.Rules.{rules}
-use Prim.Native.Nat.{ℕ, ◌≤◌, ◌-◌}
-use mathlib.Core.Path.{◌≡◌, refl}
-use lib.ListN.{length}
-use Rattle.pairs.specs.Words.{charset_of, table_of}
-use Rattle.rules.specs.Internal.{lookup_by}
-use Rattle.lookup.proofs.Buffers.{filled_to, filled_more, filled_all}
+use mathlib.Core.Path.{refl}
+use Rattle.lookup.proofs.Buffers.{filled_more, filled_all}
 use Rattle.lookup.proofs.Replies.{same_cell, same_rule}
 use Rattle.lookup.proofs.fill.Goals as goal
 

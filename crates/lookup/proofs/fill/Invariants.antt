@@ -1,11 +1,9 @@
-use borrow.Author.Rules.{rules}
 use Prim.Native.Nat.{ℕ, ◌≤◌, ◌-◌}
-use mathlib.Core.Path.{◌≡◌, refl}
+use mathlib.Core.Path.{◌≡◌}
 use lib.ListN.{length}
 use Rattle.pairs.specs.Words.{charset_of, table_of}
 use Rattle.rules.specs.Internal.{lookup_by}
-use Rattle.lookup.proofs.Buffers.{filled_to, filled_more, filled_all}
-use Rattle.lookup.proofs.Replies.{same_cell, same_rule}
+use Rattle.lookup.proofs.Buffers.{filled_to}
 use Rattle.lookup.proofs.fill.Given as goal
 
 -- each buffer is filled up to i, and keeps its length

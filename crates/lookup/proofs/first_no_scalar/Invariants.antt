@@ -1,9 +1,7 @@
-use borrow.Author.Rules.{rules}
 use Prim.Native.Nat.{◌≤◌, ◌-◌}
 use mathlib.Core.Path.{◌≡◌}
 use lib.ListN.{length, drop}
 use Rattle.lookup.specs.Calls.{first_no_scalar}
-use Rattle.lookup.proofs.Replies.{first_here, first_later, first_none}
 use Rattle.lookup.proofs.first_no_scalar.Given as goal
 
 -- what is looked for is to be found from i on

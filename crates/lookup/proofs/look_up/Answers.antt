@@ -3,7 +3,6 @@ use Rattle.basics.proofs.Tests.{chosen}
 use Rattle.rules.proofs.Choices.{by_last}
 use Rattle.table.proofs.Lent.{lent_short, lent_fault, lent_fits}
 use Rattle.lookup.proofs.WholeWalks.{lent_links}
-use borrow.Author.Rules.{rules}
 use Rattle.lookup.proofs.look_up.Goals as goal
 
 pub returns-then-words-lt-TABLE_WORDS : goal.returns-then-words-lt-TABLE_WORDS

@@ -1,4 +1,3 @@
-use borrow.Author.Rules.{rules}
 use Rattle.basics.proofs.Tests.{chosen}
 use Rattle.rules.proofs.Choices.{local_asked, rule_fits, rule_passed}
 use Rattle.ordered.proofs.answer_by.Goals as goal

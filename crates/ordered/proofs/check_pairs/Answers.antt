@@ -1,6 +1,4 @@
-use borrow.Author.Rules.{rules}
-use Prim.Native.Nat.{◌-◌}
-use Rattle.ordered.proofs.Checks.{Checking, check_begins, pair_unsound, pair_loops, pair_passes, pairs_over}
+use Rattle.ordered.proofs.Checks.{check_begins, pair_unsound, pair_loops, pair_passes, pairs_over}
 use Rattle.ordered.proofs.check_pairs.Goals as goal
 
 pub loop-k-init : goal.loop-k-init

@@ -1,6 +1,5 @@
-use borrow.Author.Rules.{rules}
 use Prim.Native.Nat.{◌-◌}
-use Rattle.ordered.proofs.Checks.{Checking, check_begins, pair_unsound, pair_loops, pair_passes, pairs_over}
+use Rattle.ordered.proofs.Checks.{Checking}
 use Rattle.ordered.proofs.check_pairs.Given as goal
 
 abbrev pub invariant-loop-k : goal.invariant-loop-k

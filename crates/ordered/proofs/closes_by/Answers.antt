@@ -1,4 +1,3 @@
-use borrow.Author.Rules.{rules}
 use mathlib.Core.Path.{ap}
 use Rattle.basics.proofs.Tests.{on_character}
 use Rattle.pairs.specs.declared.Walked.{Walked}

@@ -1,10 +1,5 @@
 use borrow.Author.Rules.{rules}
-use Prim.Native.Nat.{◌*◌, ◌≤◌, ◌-◌}
-use mathlib.Core.Path.{◌≡◌, refl}
-use lib.ListN.{length, drop}
-use Rattle.definitions.specs.Effects.{definition_limit}
-use Rattle.pairs.specs.Words.{pair_words}
-use Rattle.ordered.specs.Internal.{pairs_from}
+use mathlib.Core.Path.{refl}
 use Rattle.ordered.proofs.Checks.{count_here, count_on, count_over}
 use Rattle.ordered.proofs.count_pairs.Goals as goal
 

@@ -1,4 +1,3 @@
-use borrow.Author.Rules.{rules}
 use Rattle.basics.proofs.Tests.{on_character}
 use Rattle.ordered.proofs.Finds.{explicit_found}
 use Rattle.ordered.proofs.explicit_by.Goals as goal

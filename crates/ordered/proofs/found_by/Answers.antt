@@ -1,4 +1,3 @@
-use borrow.Author.Rules.{rules}
 use Rattle.basics.proofs.Tests.{chosen}
 use Rattle.definitions.specs.Definitions.{found_in}
 use Rattle.ordered.proofs.found_by.Goals as goal

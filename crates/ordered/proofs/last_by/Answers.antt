@@ -1,4 +1,3 @@
-use borrow.Author.Rules.{rules}
 use Rattle.rules.proofs.Choices.{both_asked}
 use Rattle.ordered.proofs.last_by.Goals as goal
 

@@ -1,4 +1,3 @@
-use borrow.Author.Rules.{rules}
 use Rattle.rules.specs.Rules.{choose}
 use Rattle.rules.proofs.Choices.{on_cell, asked}
 use Rattle.ordered.proofs.later_by.Goals as goal

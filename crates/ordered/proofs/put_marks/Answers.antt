@@ -1,8 +1,4 @@
 use borrow.Author.Rules.{rules}
-use Prim.Native.Nat.{◌*◌, ◌≤◌, ◌-◌}
-use mathlib.Core.Path.{◌≡◌}
-use lib.ListN.{length}
-use Rattle.ordered.specs.Internal.{slots, Marks}
 use Rattle.ordered.proofs.Finds.{none_marked, one_marked, all_marked}
 use Rattle.ordered.proofs.put_marks.Goals as goal
 

@@ -1,9 +1,7 @@
-use borrow.Author.Rules.{rules}
 use Prim.Native.Nat.{◌*◌, ◌≤◌, ◌-◌}
 use mathlib.Core.Path.{◌≡◌}
 use lib.ListN.{length}
 use Rattle.ordered.specs.Internal.{slots, Marks}
-use Rattle.ordered.proofs.Finds.{none_marked, one_marked, all_marked}
 use Rattle.ordered.proofs.put_marks.Given as goal
 
 -- The characters of the first k pairs have their marks.

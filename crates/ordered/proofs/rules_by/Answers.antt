@@ -1,4 +1,3 @@
-use borrow.Author.Rules.{rules}
 use Rattle.rules.proofs.Choices.{rule_later, rule_walked}
 use Rattle.ordered.proofs.rules_by.Goals as goal
 

@@ -1,12 +1,9 @@
-use borrow.Author.Rules.{rules}
 use Prim.Native.Nat.{◌*◌, ◌≤◌, ◌-◌}
-use mathlib.Core.Logic.{⊎_elim}
 use mathlib.Core.Path.{◌≡◌}
-use native.Mathlib.Omega.{arith}
 use lib.ListN.{length}
 use Rattle.definitions.specs.Definitions.{table, alias_of, walk_within, walk}
 use Rattle.pairs.specs.Words.{definitions}
-use Rattle.pairs.proofs.Walks.{after, walk_first, walk_on, walk_ends, walk_cut}
+use Rattle.pairs.proofs.Walks.{after}
 use Rattle.ordered.specs.Internal.{Ready}
 use Rattle.ordered.proofs.walk_by.Given as goal
 

@@ -1,7 +1,6 @@
 use mathlib.Core.Path.{ap}
 use Rattle.pairs.specs.declared.Walked.{Walked}
 use Rattle.basics.proofs.Tests.{on_character}
-use borrow.Author.Rules.{rules}
 use Rattle.pairs.proofs.closes_loop.Goals as goal
 
 pub returns-in-Character : goal.returns-in-Character

@@ -1,5 +1,4 @@
 use Rattle.definitions.specs.Definitions.{explicit}
-use borrow.Author.Rules.{rules}
 use Rattle.pairs.proofs.explicit_cell.Goals as goal
 
 pub returns : goal.returns

@@ -1,10 +1,5 @@
 use borrow.Author.Rules.{rules}
-use Prim.Native.Nat.{◌*◌, ◌≤◌, ◌-◌}
-use mathlib.Core.Path.{◌≡◌}
-use lib.ListN.{length}
-use Rattle.definitions.specs.Definitions.{find}
-use Rattle.pairs.specs.Words.{definitions}
-use Rattle.pairs.proofs.Pairs.{rest, rest_all, scan_here, scan_later, scan_none}
+use Rattle.pairs.proofs.Pairs.{rest_all, scan_here, scan_later, scan_none}
 use Rattle.pairs.proofs.find_pair.Goals as goal
 
 pub loop-i-init : goal.loop-i-init

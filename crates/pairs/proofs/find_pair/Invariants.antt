@@ -1,10 +1,9 @@
-use borrow.Author.Rules.{rules}
 use Prim.Native.Nat.{◌*◌, ◌≤◌, ◌-◌}
 use mathlib.Core.Path.{◌≡◌}
 use lib.ListN.{length}
 use Rattle.definitions.specs.Definitions.{find}
 use Rattle.pairs.specs.Words.{definitions}
-use Rattle.pairs.proofs.Pairs.{rest, rest_all, scan_here, scan_later, scan_none}
+use Rattle.pairs.proofs.Pairs.{rest}
 use Rattle.pairs.proofs.find_pair.Given as goal
 
 -- No pair before i has the character c.

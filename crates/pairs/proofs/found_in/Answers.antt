@@ -1,6 +1,5 @@
 use Rattle.basics.proofs.Tests.{chosen}
 use Rattle.definitions.specs.Definitions.{found_in}
-use borrow.Author.Rules.{rules}
 use Rattle.pairs.proofs.found_in.Goals as goal
 
 pub returns-then-is_braille : goal.returns-then-is_braille

@@ -1,7 +1,6 @@
 use Rattle.basics.proofs.Tests.{chosen, tests}
 use Rattle.definitions.proofs.Admission.{judged}
 use Rattle.pairs.proofs.Pairs.{definitions_length}
-use borrow.Author.Rules.{rules}
 use Rattle.pairs.proofs.judge.Goals as goal
 
 pub returns-then-is_braille : goal.returns-then-is_braille

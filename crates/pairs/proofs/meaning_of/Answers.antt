@@ -1,6 +1,5 @@
 use Rattle.basics.proofs.Tests.{tests}
 use Rattle.pairs.specs.Words.{meaning_of}
-use borrow.Author.Rules.{rules}
 use Rattle.pairs.proofs.meaning_of.Goals as goal
 
 pub returns-then-kind-eq1 : goal.returns-then-kind-eq1

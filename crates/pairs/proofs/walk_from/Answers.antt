@@ -1,11 +1,5 @@
 use borrow.Author.Rules.{rules}
-use Prim.Native.Nat.{◌*◌, ◌≤◌, ◌-◌}
-use mathlib.Core.Logic.{⊎_elim}
-use mathlib.Core.Path.{◌≡◌}
-use lib.ListN.{length}
-use Rattle.definitions.specs.Definitions.{table, alias_of, walk_within, walk}
-use Rattle.pairs.specs.Words.{definitions}
-use Rattle.pairs.proofs.Walks.{after, walk_first, walk_on, walk_ends, walk_cut}
+use Rattle.pairs.proofs.Walks.{walk_first, walk_on, walk_ends, walk_cut}
 use Rattle.pairs.proofs.walk_from.Goals as goal
 use Rattle.pairs.proofs.walk_from.Goals.{then-links-count+in_default, else-links-count}
 

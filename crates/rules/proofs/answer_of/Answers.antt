@@ -1,4 +1,3 @@
-use borrow.Author.Rules.{rules}
 use Rattle.basics.proofs.Tests.{chosen}
 use Rattle.rules.proofs.Choices.{rule_fits, rule_passed}
 use Rattle.rules.proofs.answer_of.Goals as goal

@@ -1,4 +1,3 @@
-use borrow.Author.Rules.{rules}
 use Rattle.basics.proofs.Tests.{on_character}
 use Rattle.rules.proofs.explicit_of.Goals as goal
 

@@ -1,6 +1,5 @@
 use Rattle.rules.proofs.Choices.{on_cell}
 use Rattle.rules.specs.Rules.{choose}
-use borrow.Author.Rules.{rules}
 use Rattle.rules.proofs.last_rules.Goals as goal
 
 pub returns-in-Dots : goal.returns-in-Dots

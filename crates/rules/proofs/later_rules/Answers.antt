@@ -1,6 +1,5 @@
 use Rattle.rules.specs.Rules.{choose}
 use Rattle.rules.proofs.Choices.{on_cell, asked}
-use borrow.Author.Rules.{rules}
 use Rattle.rules.proofs.later_rules.Goals as goal
 
 pub returns-in-Dots : goal.returns-in-Dots

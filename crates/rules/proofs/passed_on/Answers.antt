@@ -1,4 +1,3 @@
-use borrow.Author.Rules.{rules}
 use Rattle.rules.proofs.Choices.{private_passed, other_passed}
 use Rattle.rules.proofs.passed_on.Goals as goal
 

@@ -1,4 +1,3 @@
-use borrow.Author.Rules.{rules}
 use Rattle.rules.proofs.Choices.{rule_later, rule_walked}
 use Rattle.rules.proofs.rules_from_3.Goals as goal
 

@@ -1,5 +1,4 @@
 use Rattle.basics.proofs.Tests.{tests}
-use borrow.Author.Rules.{rules}
 use Rattle.scalars.proofs.as_byte.Goals as goal
 
 pub returns-then-n-le255-clause-value : goal.returns-then-n-le255-clause-value

@@ -1,9 +1,6 @@
 use borrow.Author.Rules.{rules}
-use mathlib.Core.Path.{◌≡◌, refl}
-use Prim.Native.Nat.{◌-◌, ◌*◌, ◌/◌, ◌≤◌}
-use lib.ListN.{length, drop}
+use mathlib.Core.Path.{refl}
 use Rattle.basics.proofs.Tests.{tests}
-use Rattle.scalars.specs.Characters.{byte_by}
 use Rattle.scalars.proofs.Charsets.{byte_row, no_byte_row}
 use Rattle.scalars.proofs.byte_by.Goals as goal
 

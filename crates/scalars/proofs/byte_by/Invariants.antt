@@ -1,10 +1,7 @@
-use borrow.Author.Rules.{rules}
-use mathlib.Core.Path.{◌≡◌, refl}
+use mathlib.Core.Path.{◌≡◌}
 use Prim.Native.Nat.{◌-◌, ◌*◌, ◌/◌, ◌≤◌}
 use lib.ListN.{length, drop}
-use Rattle.basics.proofs.Tests.{tests}
 use Rattle.scalars.specs.Characters.{byte_by}
-use Rattle.scalars.proofs.Charsets.{byte_row, no_byte_row}
 use Rattle.scalars.proofs.byte_by.Given as goal
 
 -- what the rows from i on say is what all say

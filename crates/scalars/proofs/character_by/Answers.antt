@@ -1,8 +1,5 @@
 use borrow.Author.Rules.{rules}
-use mathlib.Core.Path.{◌≡◌, refl}
-use Prim.Native.Nat.{◌-◌, ◌*◌, ◌/◌, ◌≤◌}
-use lib.ListN.{length, drop}
-use Rattle.scalars.specs.Characters.{character_by}
+use mathlib.Core.Path.{refl}
 use Rattle.scalars.proofs.Charsets.{character_here, character_later, no_character_row}
 use Rattle.scalars.proofs.character_by.Goals as goal
 

@@ -1,9 +1,7 @@
-use borrow.Author.Rules.{rules}
-use mathlib.Core.Path.{◌≡◌, refl}
+use mathlib.Core.Path.{◌≡◌}
 use Prim.Native.Nat.{◌-◌, ◌*◌, ◌/◌, ◌≤◌}
 use lib.ListN.{length, drop}
 use Rattle.scalars.specs.Characters.{character_by}
-use Rattle.scalars.proofs.Charsets.{character_here, character_later, no_character_row}
 use Rattle.scalars.proofs.character_by.Given as goal
 
 -- what the rows from i on say is what all say

@@ -1,7 +1,6 @@
 use mathlib.Core.Path.{ap}
 use mathlib.Core.Bool.{not}
 use Rattle.basics.proofs.Tests.{on_both}
-use borrow.Author.Rules.{rules}
 use Rattle.scalars.proofs.is_operand.Goals as goal
 
 pub returns-then-is_scalar : goal.returns-then-is_scalar

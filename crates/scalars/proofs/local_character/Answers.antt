@@ -1,7 +1,6 @@
 use Rattle.basics.proofs.Tests.{tests}
 use Rattle.scalars.specs.Characters.{character_by}
 use Rattle.scalars.proofs.Charsets.{widened}
-use borrow.Author.Rules.{rules}
 use Rattle.scalars.proofs.local_character.Goals as goal
 
 pub returns-then-charset-eq-ISO_8859_15 : goal.returns-then-charset-eq-ISO_8859_15

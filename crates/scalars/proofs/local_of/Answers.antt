@@ -1,4 +1,3 @@
-use borrow.Author.Rules.{rules}
 use Rattle.basics.proofs.Tests.{chosen}
 use Rattle.scalars.specs.Characters.{local_of}
 use Rattle.scalars.proofs.local_of.Goals as goal

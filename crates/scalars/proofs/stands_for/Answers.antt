@@ -1,9 +1,5 @@
-use mathlib.Core.Logic.{⊎_elim}
 use borrow.Author.Rules.{rules}
-use mathlib.Core.Path.{◌≡◌, refl}
-use Prim.Native.Nat.{◌-◌, ◌*◌, ◌/◌, ◌≤◌}
-use lib.ListN.{length, drop}
-use Rattle.scalars.specs.Characters.{stands_for}
+use mathlib.Core.Path.{refl}
 use Rattle.basics.proofs.Tests.{tests}
 use Rattle.scalars.proofs.Rows.{next_row, rows_over}
 use Rattle.scalars.proofs.stands_for.Goals as goal

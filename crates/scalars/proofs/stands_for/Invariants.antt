@@ -1,11 +1,7 @@
-use mathlib.Core.Logic.{⊎_elim}
-use borrow.Author.Rules.{rules}
-use mathlib.Core.Path.{◌≡◌, refl}
+use mathlib.Core.Path.{◌≡◌}
 use Prim.Native.Nat.{◌-◌, ◌*◌, ◌/◌, ◌≤◌}
 use lib.ListN.{length, drop}
 use Rattle.scalars.specs.Characters.{stands_for}
-use Rattle.basics.proofs.Tests.{tests}
-use Rattle.scalars.proofs.Rows.{next_row, rows_over}
 use Rattle.scalars.proofs.stands_for.Given as goal
 
 -- what stands for c by the rows from i on stands for it by all

@@ -1,4 +1,3 @@
-use borrow.Author.Rules.{rules}
 use Rattle.table.proofs.Check.{end_sound, end_fault, fault_stays}
 use Rattle.table.proofs.and_end.Goals as goal
 

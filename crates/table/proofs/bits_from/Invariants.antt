@@ -1,9 +1,7 @@
 use Prim.Native.Nat.{◌-◌}
-use mathlib.Core.Path.{◌≡◌, refl}
+use mathlib.Core.Path.{◌≡◌}
 use lib.ListN.{length, drop}
-use borrow.Author.Rules.{rules}
 use Rattle.basics.specs.Internal.{bits_with, bits_of}
-use Rattle.basics.proofs.Bits.{bits_on, bits_over}
 use Rattle.table.proofs.bits_from.Given as goal
 
 -- the bits of the words from `from` to `at` are gathered; those from `at` on go with them

@@ -1,18 +1,13 @@
-use borrow.Author.Rules.{rules}
-use native.Mathlib.Omega.{arith}
-use mathlib.Core.Logic.{⊎_elim}
 use Prim.Native.Nat.{◌+◌, ◌*◌, ◌≤◌, ◌-◌}
 use mathlib.Core.Path.{◌≡◌}
 use mathlib.Core.List.{[]}
 use lib.ListN.{length, drop}
 use Rattle.definitions.specs.Definitions.{find}
 use Rattle.definitions.specs.Effects.{definition_limit}
-use Rattle.basics.proofs.Tests.{chosen}
-use borrow.Author.Tests.{not-true, not-false}
 use Rattle.pairs.specs.Words.{pair_words, definition_of, definitions}
 use Rattle.table.specs.Check.{check_from}
-use Rattle.pairs.proofs.Pairs.{rest, rest_all, scan_later}
-use Rattle.table.proofs.Check.{if_fresh, check_start, check_next, check_repeat, check_none, check_over}
+use Rattle.pairs.proofs.Pairs.{rest}
+use Rattle.table.proofs.Check.{if_fresh}
 use Rattle.table.proofs.check_words.Given as goal
 
 -- The pair k is sound by itself, and no pair before j has its character.

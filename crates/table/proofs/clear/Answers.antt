@@ -1,7 +1,6 @@
-use Prim.Native.Nat.{ℕ, ◌+◌, ◌<◌, ◌≤◌, ◌-◌}
+use Prim.Native.Nat.{ℕ, ◌+◌, ◌<◌, ◌≤◌}
 use mathlib.Core.List.{List, ◌++◌}
 use lib.ListN.{set, length, drop, replicate}
-use Rattle.pairs.specs.Words.{table_words}
 use borrow.Author.Rules.{rules}
 use borrow.Author.Fill.{fill_more}
 use mathlib.Core.Path.{◌≡◌, refl}

@@ -1,11 +1,8 @@
-use Prim.Native.Nat.{ℕ, ◌+◌, ◌<◌, ◌≤◌, ◌-◌}
-use mathlib.Core.List.{List, ◌++◌}
-use lib.ListN.{set, length, drop, replicate}
+use Prim.Native.Nat.{◌≤◌, ◌-◌}
+use mathlib.Core.List.{◌++◌}
+use lib.ListN.{length, drop, replicate}
 use Rattle.pairs.specs.Words.{table_words}
-use borrow.Author.Rules.{rules}
-use borrow.Author.Fill.{fill_more}
-use mathlib.Core.Path.{◌≡◌, refl}
-use native.Mathlib.Omega.{arith}
+use mathlib.Core.Path.{◌≡◌}
 use Rattle.table.proofs.clear.Given as goal
 
 -- The first i words are zero, the others as they were.

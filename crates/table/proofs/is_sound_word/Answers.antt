@@ -1,6 +1,5 @@
 use Rattle.basics.proofs.Tests.{tests}
 use Rattle.pairs.specs.Words.{is_sound_word}
-use borrow.Author.Rules.{rules}
 use Rattle.table.proofs.is_sound_word.Goals as goal
 
 pub returns-then-kind-eq1 : goal.returns-then-kind-eq1

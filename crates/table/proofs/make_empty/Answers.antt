@@ -1,5 +1,4 @@
 use Rattle.table.proofs.Written.{set_put}
-use borrow.Author.Rules.{rules}
 use Rattle.table.proofs.make_empty.Goals as goal
 
 pub returns : goal.returns

@@ -1,5 +1,4 @@
 use Rattle.table.proofs.Readback.{alias_fits}
-use borrow.Author.Rules.{rules}
 use Rattle.table.proofs.word_of.Goals as goal
 
 pub overflow_add-result-in-Alias : goal.overflow_add-result-in-Alias

@@ -1,12 +1,7 @@
-use Rattle.definitions.specs.Effects.{definition_limit}
 use Rattle.basics.proofs.Tests.{chosen}
 use borrow.Author.Tests.{not-true, not-false}
-use Rattle.pairs.specs.Words.{pair_words}
 use borrow.Author.Rules.{rules}
-use Prim.Native.Nat.{◌*◌, ◌≤◌, ◌-◌}
-use mathlib.Core.Path.{◌≡◌, refl}
-use lib.ListN.{length, drop}
-use Rattle.table.specs.Check.{zero_from}
+use mathlib.Core.Path.{refl}
 use Rattle.table.proofs.Check.{no_bits, zero_next, zero_over}
 use Rattle.table.proofs.zero_from.Goals as goal
 

@@ -1,10 +1,7 @@
-use mathlib.Core.Logic.{⊎_elim}
-use borrow.Author.Rules.{rules}
 use Prim.Native.Nat.{◌-◌, ◌≤◌}
-use mathlib.Core.Path.{◌≡◌, refl}
+use mathlib.Core.Path.{◌≡◌}
 use Rattle.pairs.specs.Words.{definitions}
-use Rattle.typing.specs.Typing.{filled_from, entries_of}
-use Rattle.typing.proofs.Calls.{scan_on, scan_over}
+use Rattle.typing.specs.Typing.{entries_of}
 use Rattle.typing.proofs.fill_entries.Given as goal
 
 -- the entries are those of the first i definitions

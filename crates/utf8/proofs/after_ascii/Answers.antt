@@ -1,11 +1,8 @@
-use Prim.Native.Nat.{◌-◌, ◌≤◌}
-use mathlib.Core.Path.{◌≡◌, refl}
-use lib.ListN.{length, drop}
+use mathlib.Core.Path.{refl}
 use borrow.Author.Rules.{rules}
 use Rattle.basics.proofs.Tests.{tests}
 use Rattle.basics.proofs.Loops.{next_element, no_element}
 use Rattle.utf8.specs.Internal.{ascii_end, resume_from}
-use Rattle.utf8.specs.declared.Utf8State.TheVariants.{Between}
 use Rattle.utf8.proofs.after_ascii.Goals as goal
 
 pub loop-i-init : goal.loop-i-init

@@ -1,10 +1,7 @@
 use Prim.Native.Nat.{◌-◌, ◌≤◌}
-use mathlib.Core.Path.{◌≡◌, refl}
+use mathlib.Core.Path.{◌≡◌}
 use lib.ListN.{length, drop}
-use borrow.Author.Rules.{rules}
-use Rattle.basics.proofs.Tests.{tests}
-use Rattle.basics.proofs.Loops.{next_element, no_element}
-use Rattle.utf8.specs.Internal.{ascii_end, resume_from}
+use Rattle.utf8.specs.Internal.{resume_from}
 use Rattle.utf8.specs.declared.Utf8State.TheVariants.{Between}
 use Rattle.utf8.proofs.after_ascii.Given as goal
 

@@ -1,4 +1,3 @@
-use borrow.Author.Rules.{rules}
 use Rattle.utf8.proofs.after_byte.Goals as goal
 
 pub returns-in-Between : goal.returns-in-Between

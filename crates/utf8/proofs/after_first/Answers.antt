@@ -1,6 +1,5 @@
 use Rattle.basics.proofs.Tests.{tests}
 use Rattle.utf8.specs.Utf8.{after_first}
-use borrow.Author.Rules.{rules}
 use Rattle.utf8.proofs.after_first.Goals as goal
 
 pub returns-then-b-lt128 : goal.returns-then-b-lt128

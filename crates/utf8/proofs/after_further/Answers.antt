@@ -1,6 +1,5 @@
 use Rattle.basics.proofs.Tests.{tests}
 use Rattle.utf8.specs.Utf8.{after_further}
-use borrow.Author.Rules.{rules}
 use Rattle.utf8.proofs.after_further.Goals as goal
 
 pub returns-then-b-low : goal.returns-then-b-low

@@ -1,4 +1,3 @@
-use borrow.Author.Rules.{rules}
 use Rattle.utf8.proofs.at_end.Goals as goal
 
 pub returns-in-Inside : goal.returns-in-Inside

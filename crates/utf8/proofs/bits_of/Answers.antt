@@ -1,8 +1,4 @@
-use Prim.Native.Nat.{◌-◌}
-use mathlib.Core.Path.{◌≡◌, refl}
-use lib.ListN.{length, drop}
-use borrow.Author.Rules.{rules}
-use Rattle.basics.specs.Internal.{bits_with, bits_of}
+use mathlib.Core.Path.{refl}
 use Rattle.basics.proofs.Bits.{bits_on, bits_over}
 use Rattle.utf8.proofs.bits_of.Goals as goal
 

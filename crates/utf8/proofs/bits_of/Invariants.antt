@@ -1,9 +1,7 @@
 use Prim.Native.Nat.{◌-◌}
-use mathlib.Core.Path.{◌≡◌, refl}
+use mathlib.Core.Path.{◌≡◌}
 use lib.ListN.{length, drop}
-use borrow.Author.Rules.{rules}
 use Rattle.basics.specs.Internal.{bits_with, bits_of}
-use Rattle.basics.proofs.Bits.{bits_on, bits_over}
 use Rattle.utf8.proofs.bits_of.Given as goal
 
 -- the bits of the bytes before i are gathered; those from i on go with them

@@ -1,10 +1,8 @@
-use Prim.Native.Nat.{◌-◌, ◌≤◌}
-use mathlib.Core.Path.{◌≡◌, refl}
-use lib.ListN.{length, drop}
+use mathlib.Core.Path.{refl}
 use borrow.Author.Rules.{rules}
 use Rattle.basics.proofs.Loops.{no_element}
-use Rattle.utf8.specs.Utf8.{utf8, utf8_from}
-use Rattle.utf8.proofs.Utf8.{StartWithin, byte_on, ascii_good, resumed, start_on, start_end}
+use Rattle.utf8.specs.Utf8.{utf8_from}
+use Rattle.utf8.proofs.Utf8.{byte_on, ascii_good, resumed, start_on, start_end}
 use Rattle.utf8.proofs.check_utf8.Goals as goal
 
 pub returns-then-bits_of-lt128-clause-value : goal.returns-then-bits_of-lt128-clause-value

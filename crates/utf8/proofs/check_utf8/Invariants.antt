@@ -1,10 +1,8 @@
 use Prim.Native.Nat.{◌-◌, ◌≤◌}
-use mathlib.Core.Path.{◌≡◌, refl}
+use mathlib.Core.Path.{◌≡◌}
 use lib.ListN.{length, drop}
-use borrow.Author.Rules.{rules}
-use Rattle.basics.proofs.Loops.{no_element}
 use Rattle.utf8.specs.Utf8.{utf8, utf8_from}
-use Rattle.utf8.proofs.Utf8.{StartWithin, byte_on, ascii_good, resumed, start_on, start_end}
+use Rattle.utf8.proofs.Utf8.{StartWithin}
 use Rattle.utf8.proofs.check_utf8.Given as goal
 
 -- from i on, with what was read before it, the line is as the whole; and what is bad began before i

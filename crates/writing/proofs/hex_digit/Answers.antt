@@ -1,4 +1,3 @@
-use borrow.Author.Rules.{rules}
 use Rattle.basics.proofs.Tests.{tests}
 use Rattle.writing.specs.Writing.{hex_digit}
 use Rattle.writing.proofs.hex_digit.Goals as goal

@@ -1,9 +1,5 @@
 use borrow.Author.Rules.{rules}
-use Prim.Native.Nat.{◌≤◌}
-use mathlib.Core.Path.{◌≡◌}
-use mathlib.Core.List.{◌++◌, append-nil}
-use lib.ListN.{length, drop}
-use Rattle.writing.specs.Writing.{hex_digits}
+use mathlib.Core.List.{append-nil}
 use Rattle.writing.proofs.Numerals.{digits_more, digits_all}
 use Rattle.writing.proofs.hex_digits.Goals as goal
 

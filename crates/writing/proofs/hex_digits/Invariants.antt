@@ -1,10 +1,8 @@
-use borrow.Author.Rules.{rules}
 use Prim.Native.Nat.{◌≤◌}
 use mathlib.Core.Path.{◌≡◌}
-use mathlib.Core.List.{◌++◌, append-nil}
+use mathlib.Core.List.{◌++◌}
 use lib.ListN.{length, drop}
 use Rattle.writing.specs.Writing.{hex_digits}
-use Rattle.writing.proofs.Numerals.{digits_more, digits_all}
 use Rattle.writing.proofs.hex_digits.Given as goal
 
 -- the digits from i on are found, those of what is left stand before them

@@ -1,9 +1,5 @@
 use borrow.Author.Rules.{rules}
-use Prim.Native.Nat.{◌+◌, ◌-◌, ◌≤◌}
-use mathlib.Core.Path.{◌≡◌}
 use native.Mathlib.Nat.{add-zero}
-use lib.ListN.{length, drop}
-use lib.Seq.{sets}
 use Rattle.writing.proofs.Puts.{copied_more, copied_all}
 use Rattle.writing.proofs.put_bytes.Goals as goal
 

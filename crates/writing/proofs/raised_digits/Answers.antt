@@ -1,9 +1,5 @@
 use borrow.Author.Rules.{rules}
-use Prim.Native.Nat.{◌+◌, ◌-◌, ◌≤◌}
-use mathlib.Core.Path.{◌≡◌, refl}
-use mathlib.Core.List.{◌++◌}
-use lib.ListN.{length, take}
-use Rattle.writing.specs.Writing.{raised_from}
+use mathlib.Core.Path.{refl}
 use Rattle.writing.proofs.Numerals.{raised_more, raised_all}
 use Rattle.writing.proofs.raised_digits.Goals as goal
 

@@ -1,10 +1,8 @@
-use borrow.Author.Rules.{rules}
 use Prim.Native.Nat.{◌+◌, ◌-◌, ◌≤◌}
-use mathlib.Core.Path.{◌≡◌, refl}
+use mathlib.Core.Path.{◌≡◌}
 use mathlib.Core.List.{◌++◌}
 use lib.ListN.{length, take}
 use Rattle.writing.specs.Writing.{raised_from}
-use Rattle.writing.proofs.Numerals.{raised_more, raised_all}
 use Rattle.writing.proofs.raised_digits.Given as goal
 
 -- the digits of the raised dots before dot i stand at the front
