@@ -1,0 +1,6 @@
+use Rattle.pairs.proofs.Pairs.{few_words}
+use borrow.Author.Rules.{rules}
+use Rattle.table.proofs.charset_of.Goals as goal
+
+pub returns-then-words-le-PAIR_WORDS : goal.returns-then-words-le-PAIR_WORDS
+returns-then-words-le-PAIR_WORDS c = search few_words

@@ -1,0 +1,48 @@
+use borrow.Author.Rules.{rules}
+use native.Mathlib.Omega.{arith}
+use mathlib.Core.Logic.{⊎_elim}
+use Prim.Native.Nat.{◌+◌, ◌*◌, ◌≤◌, ◌-◌}
+use mathlib.Core.Path.{◌≡◌}
+use mathlib.Core.List.{[]}
+use lib.ListN.{length, drop}
+use Rattle.definitions.specs.Definitions.{find}
+use Rattle.definitions.specs.Effects.{definition_limit}
+use Rattle.basics.proofs.Tests.{chosen}
+use borrow.Author.Tests.{not-true, not-false}
+use Rattle.pairs.specs.Words.{pair_words, definition_of, definitions}
+use Rattle.table.specs.Check.{check_from}
+use Rattle.pairs.proofs.Pairs.{rest, rest_all, scan_later}
+use Rattle.table.proofs.Check.{if_fresh, check_start, check_next, check_repeat, check_none, check_over}
+use Rattle.table.proofs.check_words.Goals as goal
+use Rattle.table.proofs.check_words.Goals.{else-pairs-test, then-pairs-test+else-is_zero_pair+else-not-is_sound_pair+then-loop-j-test+then-words-j}
+
+pub pairs-init : goal.pairs-init
+pairs-init c = (search rules, search rules, search check_start)
+
+pub returns-then-is_zero_pair : goal.returns-then-is_zero_pair
+returns-then-is_zero_pair c = search (check_next, chosen)
+
+pub returns-then-not-is_sound_pair : goal.returns-then-not-is_sound_pair
+returns-then-not-is_sound_pair c = search (check_next, chosen, not-true)
+
+-- the outer invariant is named: `search` takes too many steps to find it here
+pub loop-j-init : goal.loop-j-init
+loop-j-init c =
+    let l = c.pairs in
+    (search rules, search rules, rw rest_all, check_next _ _ l.invariant.2 l.invariant.1 (omega arith) (search (chosen, not-false)))
+
+pub loop-j-preserved : goal.loop-j-preserved
+loop-j-preserved c = (search rules, search rules, search scan_later, search rules)
+
+pub returns-then-closes_loop : goal.returns-then-closes_loop
+returns-then-closes_loop c = search (check_none, chosen)
+
+pub pairs-preserved : goal.pairs-preserved
+pairs-preserved c = (search rules, search rules, search (check_none, chosen))
+
+pub returns-then-k-lt-DEFINITION_LIMIT : goal.returns-then-k-lt-DEFINITION_LIMIT
+returns-then-k-lt-DEFINITION_LIMIT c =
+    elim c.pairs-test.branch [ else-pairs-test w ↦ absurd (omega arith) | then-pairs-test+else-is_zero_pair+else-not-is_sound_pair+then-loop-j-test+then-words-j w ↦ search check_repeat ]
+
+pub returns-else-k-lt-DEFINITION_LIMIT : goal.returns-else-k-lt-DEFINITION_LIMIT
+returns-else-k-lt-DEFINITION_LIMIT c = search check_over

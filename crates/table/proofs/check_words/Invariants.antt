@@ -1,0 +1,32 @@
+use borrow.Author.Rules.{rules}
+use native.Mathlib.Omega.{arith}
+use mathlib.Core.Logic.{⊎_elim}
+use Prim.Native.Nat.{◌+◌, ◌*◌, ◌≤◌, ◌-◌}
+use mathlib.Core.Path.{◌≡◌}
+use mathlib.Core.List.{[]}
+use lib.ListN.{length, drop}
+use Rattle.definitions.specs.Definitions.{find}
+use Rattle.definitions.specs.Effects.{definition_limit}
+use Rattle.basics.proofs.Tests.{chosen}
+use borrow.Author.Tests.{not-true, not-false}
+use Rattle.pairs.specs.Words.{pair_words, definition_of, definitions}
+use Rattle.table.specs.Check.{check_from}
+use Rattle.pairs.proofs.Pairs.{rest, rest_all, scan_later}
+use Rattle.table.proofs.Check.{if_fresh, check_start, check_next, check_repeat, check_none, check_over}
+use Rattle.table.proofs.check_words.Given as goal
+
+-- The pair k is sound by itself, and no pair before j has its character.
+abbrev pub invariant-loop-j : goal.invariant-loop-j
+invariant-loop-j l =
+    (l.j ≤ l.k) × (2 * l.k ≤ length l.words) × (find (definitions l.k l.words) l.c ≡ find (rest l.k l.j l.words) l.c)
+    × (if_fresh (definitions l.k l.words) (definition_of l.c l.w) l.k (check_from (definitions (l.k + 1) l.words) (drop (2 * (l.k + 1)) l.words)) ≡ check_from [] l.words)
+
+abbrev pub decreases-loop-j : goal.decreases-loop-j
+decreases-loop-j l = l.k - l.j
+
+-- The pairs before k are definitions; the check of the others behind them is the check of all.
+abbrev pub invariant-pairs : goal.invariant-pairs
+invariant-pairs l = (l.k ≤ definition_limit) × (length l.words ≡ pair_words) × (check_from (definitions l.k l.words) (drop (2 * l.k) l.words) ≡ check_from [] l.words)
+
+abbrev pub decreases-pairs : goal.decreases-pairs
+decreases-pairs l = definition_limit - l.k
