@@ -1,5 +1,7 @@
 // Attributes tables: from a VGA attribute byte to its cell. And what byte tables share with them: `dot` lines, and the cell
 // of a byte by the states of the dots.
+#![tactic(auto)]
+
 ghost use Rattle.std.specs.Prelude.{◌≡◌, ◌+◌, ◌≤◌, ◌<◌, ◌^◌, length};
 ghost use Rattle.attributes.specs.Cells.{bit_of, is_on, is_raised, cell_by, attribute_cell, place, all_unnamed};
 ghost use Rattle.attributes.specs.Reader.{signed, background_state, named_state, state_of, fixed_state, state_in, is_dot_number, state_at, dot_at, dot_line};

@@ -1,4 +1,6 @@
 // Byte tables, edition 1 of text tables: from each of the 256 bytes to its cell.
+#![tactic(auto)]
+
 ghost use Rattle.std.specs.Prelude.{◌≡◌, true, ◌+◌, ◌≤◌, ◌<◌, length};
 ghost use Rattle.byte_tables.specs.Reader.{is_byte_form, form_byte, byte_at, finished, byte_line, table_line, read_table_line};
 ghost use Rattle.byte_tables.specs.Compile.{compiled_bytes, bytes_reply, shown_by, cells_from, no_cells, outcome_cells};

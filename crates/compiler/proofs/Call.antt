@@ -107,7 +107,7 @@ module _ (ws : List ℕ) (s : State) where
 -- ---- the call
 
 -- what the call is to ensure: its answer, the column, and the words that it leaves
-abbrev Ensured : ℕ → List ℕ → List ℕ → Compiled → List ℕ → Type 0
+abbrev pub Ensured : ℕ → List ℕ → List ℕ → Compiled → List ℕ → Type 0
 Ensured charset text entry r ws =
     (compiled_reply r ≡ compile_reply charset text (length entry)) × ((compiled_column r ≡ compile_column charset text (length entry)) × (ws ≡ compile_words charset text entry))
 

@@ -1,4 +1,6 @@
 // The operands of a directive: a character, a byte, dots, a cell.
+#![tactic(auto)]
+
 ghost use Rattle.std.specs.Prelude.{◌≡◌, ◌≤◌, length};
 ghost use Rattle.operands.specs.Operands.{character_at, dots_operand_at};
 ghost use Rattle.operands.specs.Internal.{OperandWithin, DotsWithin};

@@ -1,4 +1,6 @@
 // The line that the program writes for a text table.
+#![tactic(auto)]
+
 ghost use Rattle.std.specs.Prelude.{◌≡◌, [], ◌∷◌, ◌+◌, ◌≤◌, ◌<◌, length};
 ghost use Rattle.lines.specs.Texts.{compiled_reply};
 ghost use Rattle.report.specs.Report.{decimal, report_of, line_of};

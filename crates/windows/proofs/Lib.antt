@@ -1,5 +1,3 @@
-pub mod Parameters
-pub mod Lending
 pub mod Outputs
 pub mod Turns
 pub mod Passes

@@ -3,7 +3,7 @@
 // one window by value.
 ghost use Rattle.std.specs.Prelude.{◌≡◌, ◌+◌, leb, length};
 ghost use Rattle.basics.specs.Refusals.{filling_reply};
-ghost use Rattle.windows.specs.Windows.{part_of, both_hold_lem, PagesWindows, windows_of};
+ghost use Rattle.windows.specs.Windows.{part_of, both_hold, PagesWindows, windows_of};
 ghost use Rattle.windows.specs.Internal.{state, measured_of, wide_of, has_room, Room, over_at, cells_for, rules_for, written_of, turn_of, pass_of, begin_of, decide_of, answer_of};
 
 use basics::{Filling, Refusal};

@@ -1,6 +1,5 @@
 use Rattle.attributes.specs.Reader.{background_state}
 use Rattle.basics.proofs.Tests.{chosen}
-use borrow.Author.Rules.{rules}
 use Rattle.attributes.proofs.background_state.Goals as goal
 
 pub returns-then-same_bytes : goal.returns-then-same_bytes

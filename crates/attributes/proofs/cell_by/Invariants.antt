@@ -1,12 +1,8 @@
-use borrow.Author.Rules.{rules}
 use Prim.Native.Nat.{◌-◌}
 use mathlib.Core.Path.{◌≡◌}
-use mathlib.Core.Logic.{⊎_elim}
-use native.Mathlib.Omega.{arith}
 use lib.ListN.{length}
-use Rattle.basics.proofs.Tests.{chosen}
 use Rattle.attributes.specs.Cells.{cell_by}
-use Rattle.attributes.proofs.Cells.{Summed, weight_fits, plus, sum_on, sum_over}
+use Rattle.attributes.proofs.Cells.{Summed}
 use Rattle.attributes.proofs.cell_by.Given as goal
 
 -- the weights of the raised dots below i are summed

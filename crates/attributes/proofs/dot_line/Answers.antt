@@ -1,6 +1,5 @@
 use Rattle.attributes.proofs.Reader.{first_word}
 use Rattle.basics.proofs.Tests.{chosen}
-use borrow.Author.Rules.{rules}
 use Rattle.attributes.proofs.dot_line.Goals as goal
 
 pub returns-then-same_bytes-clause-value : goal.returns-then-same_bytes-clause-value

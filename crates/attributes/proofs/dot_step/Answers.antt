@@ -1,6 +1,5 @@
 use lib.Seq.{length-take-le}
 use Rattle.attributes.proofs.Compile.{step_read}
-use borrow.Author.Rules.{rules}
 use Rattle.attributes.proofs.dot_step.Goals as goal
 
 pub slice_bounds-read_dot_line-end : goal.slice_bounds-read_dot_line-end

@@ -1,5 +1,4 @@
 use Rattle.basics.proofs.Tests.{tests}
-use borrow.Author.Rules.{rules}
 use Rattle.attributes.proofs.is_dot_number.Goals as goal
 
 pub returns-then-w-ne1 : goal.returns-then-w-ne1

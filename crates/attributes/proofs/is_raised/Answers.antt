@@ -1,5 +1,4 @@
 use Rattle.attributes.proofs.Cells.{raised_on, raised_off}
-use borrow.Author.Rules.{rules}
 use Rattle.attributes.proofs.is_raised.Goals as goal
 
 pub returns-in-On : goal.returns-in-On

@@ -1,6 +1,5 @@
 use Rattle.lines.proofs.Openings.{on_opening}
 use Rattle.attributes.specs.Compile.{read_dot_line}
-use borrow.Author.Rules.{rules}
 use Rattle.attributes.proofs.read_dot_line.Goals as goal
 
 pub returns-in-Fault-clause-value : goal.returns-in-Fault-clause-value

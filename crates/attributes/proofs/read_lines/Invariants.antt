@@ -1,9 +1,5 @@
-use borrow.Author.Rules.{rules}
-use Rattle.attributes.proofs.Compile.{come_first, no_lines}
-use Rattle.lines.proofs.Texts.{Reached, lines_read, line_read, line_refused, text_accepted, text_refused}
-use Rattle.attributes.specs.Compile.{dot_step, compiled_attributes, outcome_places}
-use Rattle.attributes.specs.declared.DotStates.{DotStates}
-use mathlib.Core.Path.{refl}
+use Rattle.lines.proofs.Texts.{Reached}
+use Rattle.attributes.specs.Compile.{dot_step, compiled_attributes}
 use lib.ListN.{length}
 use Prim.Native.Nat.{◌+◌, ◌-◌, ◌≤◌}
 use Rattle.attributes.proofs.read_lines.Given as goal

@@ -1,6 +1,5 @@
 use Rattle.attributes.proofs.Reader.{state_word, on_word, on_state, rest_word}
 use Rattle.basics.proofs.Tests.{chosen}
-use borrow.Author.Rules.{rules}
 use Rattle.attributes.proofs.state_at.Goals as goal
 
 pub returns-then-start-end : goal.returns-then-start-end

@@ -1,6 +1,5 @@
 use Rattle.attributes.specs.Reader.{state_in}
 use Rattle.basics.proofs.Tests.{chosen}
-use borrow.Author.Rules.{rules}
 use Rattle.attributes.proofs.state_in.Goals as goal
 
 pub returns-then-fixed : goal.returns-then-fixed

@@ -1,5 +1,4 @@
 use Rattle.attributes.proofs.Reader.{state_empty, state_signed}
-use borrow.Author.Rules.{rules}
 use Rattle.attributes.proofs.state_of.Goals as goal
 
 pub returns-then-w-eq0 : goal.returns-then-w-eq0

@@ -1,4 +1,3 @@
-use borrow.Author.Rules.{rules}
 use Rattle.attributes.proofs.Cells.{shifted}
 use Rattle.attributes.proofs.weight.Goals as goal
 

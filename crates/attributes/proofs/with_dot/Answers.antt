@@ -1,6 +1,5 @@
 use Rattle.attributes.proofs.Compile.{dot_within, dot_fits, on_read}
 use Rattle.basics.proofs.Tests.{chosen}
-use borrow.Author.Rules.{rules}
 use Rattle.attributes.proofs.with_dot.Goals as goal
 
 pub offset_bounds-places-dot : goal.offset_bounds-places-dot

@@ -1,0 +1,13 @@
+use borrow.Author.Rules.{rules}
+use Prim.Native.Nat.{◌+◌, ◌-◌}
+use native.Mathlib.Omega.{arith}
+use lib.ListN.{length}
+use Rattle.compiler.proofs.Call.{Come, come_first, come_on, come_refused, come_end}
+use Rattle.compiler.proofs.read_lines.Given as goal
+
+-- what the text still gives from the words and the state, which are ready
+abbrev pub invariant-loop-at : goal.invariant-loop-at
+invariant-loop-at l = Come l.text l.initial.words l.words l.state l.at
+
+abbrev pub decreases-loop-at : goal.decreases-loop-at
+decreases-loop-at l = length l.text + 1 - l.at

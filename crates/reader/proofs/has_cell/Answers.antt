@@ -1,0 +1,24 @@
+use borrow.Author.Rules.{rules}
+use Prim.Native.Nat.{◌*◌, ◌≤◌, ◌-◌}
+use mathlib.Core.Path.{◌≡◌}
+use lib.ListN.{length}
+use Rattle.basics.specs.Choice.{is_character}
+use Rattle.definitions.specs.Definitions.{typed_in}
+use Rattle.pairs.specs.Words.{definitions}
+use Rattle.pairs.proofs.Pairs.{rest, rest_all}
+use Rattle.reader.specs.Conditions.{has_cell}
+use Rattle.reader.proofs.Conditions.{cell_here, cell_later, cell_none}
+use Rattle.reader.proofs.has_cell.Goals as goal
+
+pub loop-i-init : goal.loop-i-init
+unfolding has_cell
+loop-i-init c = (search rules, search rules, rw rest_all)
+
+pub returns-then-types_cell : goal.returns-then-types_cell
+returns-then-types_cell c = search cell_here
+
+pub loop-i-preserved : goal.loop-i-preserved
+loop-i-preserved c = (search rules, search rules, search cell_later)
+
+pub returns : goal.returns
+returns c = search cell_none

@@ -1,0 +1,6 @@
+use Rattle.windows.proofs.Shows.{shows_all}
+use borrow.Author.Rules.{rules}
+use Rattle.windows.proofs.show_numbers.Goals as goal
+
+pub returns : goal.returns
+returns c = search shows_all
