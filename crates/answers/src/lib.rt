@@ -1,4 +1,5 @@
 // The text of an answer, grown byte by byte. What goes beyond 256 bytes is left out, so that no caller has to show room.
+#![tactic(auto)]
 
 // The first `length` of the bytes.
 #[derive(Clone, Copy)]
@@ -107,11 +108,12 @@ pub fn is_text(text: Text, expected: &[u8]) -> bool {
 }
 
 // Writes a text to standard output.
-pub fn write(text: Text) {
+pub fn write(rt: &impl Print, text: Text) -> std::io::Result<()> {
     let bytes = text.bytes;
     let n = text.length;
     let all: &[u8] = &bytes;
     if n <= all.len() {
-        io::write_all(1, &all[0..n]);
+        rt.write_all(&all[0..n])?;
     }
+    Ok(())
 }

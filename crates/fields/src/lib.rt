@@ -1,4 +1,6 @@
 // The fields of a case, which a mark separates, and what they stand for: a text, a number, words of a table, windows.
+#![tactic(auto)]
+
 ghost use Rattle.std.specs.Prelude.{◌≤◌, ◌<◌, length};
 
 // Where a field ends, without the blanks at its end, and where the next field begins.

@@ -1,0 +1,9 @@
+use Rattle.codes.proofs.Codes.{attribute_code_lem}
+use borrow.Author.Rules.{rules}
+use Rattle.heathdapple.proofs.heathdapple_attribute_cell.Goals as goal
+
+pub returns-in-Accepted : goal.returns-in-Accepted
+returns-in-Accepted c = search attribute_code_lem
+
+pub returns-in-Refused : goal.returns-in-Refused
+returns-in-Refused c = search attribute_code_lem

@@ -1,0 +1,7 @@
+use Rattle.lookup.proofs.Replies.{pages_given}
+use Rattle.codes.specs.Codes.{filling_code}
+use borrow.Author.Rules.{rules}
+use Rattle.heathdapple.proofs.heathdapple_page.Goals as goal
+
+pub returns : goal.returns
+returns c = search (pages_given filling_code)
