@@ -14,7 +14,6 @@ use Rattle.basics.specs.Buffers.{over}
 use Rattle.basics.proofs.Tests.{told}
 use Rattle.scalars.specs.Characters.{is_scalar}
 use Rattle.definitions.specs.declared.Definition.{Definition}
-use Rattle.definitions.specs.Definitions.{table}
 use Rattle.definitions.specs.Effects.{definition_limit}
 use Rattle.pairs.specs.Words.{table_words, charset_of, table_of}
 use Rattle.pairs.proofs.Pairs.{definitions_length}

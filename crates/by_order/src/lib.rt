@@ -1,4 +1,6 @@
 // The calls by an order of a table's pairs: building it, the search, the lookup call and the page call.
+#![tactic(auto)]
+
 ghost use Rattle.std.specs.Prelude.{◌≡◌, map, ◌≤◌, length};
 ghost use Rattle.basics.specs.Refusals.{filling_reply};
 ghost use Rattle.basics.specs.Buffers.{over};

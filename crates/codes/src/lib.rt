@@ -1,5 +1,7 @@
 // What the exported calls answer, as one number, and the buffers that they fill for all 256 cells or bytes;
 // specs/Codes.antt says how.
+#![tactic(auto)]
+
 ghost use Rattle.std.specs.Prelude.{◌≡◌, map, ◌≤◌, min, length};
 ghost use Rattle.basics.specs.Refusals.{number_of, filling_reply};
 ghost use Rattle.basics.specs.Buffers.{over};

@@ -1,5 +1,7 @@
 // Compiling a text table: what a line does, and the compile call. Words and a count stand for the definitions so far, arrays and
 // a depth for the open blocks.
+#![tactic(auto)]
+
 ghost use Rattle.std.specs.Prelude.{◌≡◌, true, ◌*◌, ◌≤◌, ◌<◌, length};
 ghost use Rattle.scalars.specs.Characters.{is_charset};
 ghost use Rattle.lines.specs.Lines.{without_cr};

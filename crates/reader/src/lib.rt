@@ -1,5 +1,7 @@
 // Reading a line of a text table: directives, conditions, operands. Words and a count stand for the definitions of the lines before,
 // and the words say the local character set.
+#![tactic(auto)]
+
 ghost use Rattle.std.specs.Prelude.{◌≡◌, ◌+◌, ◌-◌, ◌*◌, ◌≤◌, ◌<◌, length};
 ghost use Rattle.std.specs.Bool.{beq};
 ghost use Rattle.basics.specs.Choice.{pick};

@@ -1,4 +1,6 @@
 // What the calls answer, as texts.
+#![tactic(auto)]
+
 use answers::Text;
 use basics::{Filling, Maybe, Refusal};
 use lines::Compiled;

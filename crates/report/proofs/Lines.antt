@@ -6,8 +6,8 @@ use native.Mathlib.Nat.{mod-eq_of_lt, pow-suc, one-le-pow, pow-le-pow_right}
 use native.Mathlib.Numerals.{add-one, unary_clauses}
 use native.Mathlib.Omega.{arith}
 use borrow.Author.Tests.{lt-ltb, le-ltb, leb-true, leb-false}
-use lib.ListN.{length, take, drop, get_or, replicate, length-append, take-append-drop}
-use lib.Seq.{take-suc, take_all, drop-drop}
+use lib.ListN.{length, take, drop, get_or, set, replicate, length-append, take-append-drop}
+use lib.Seq.{take-suc, take-suc-set, take_all, drop-drop, drop-set-lt}
 use mathlib.Core.Bool.{Bool, true, false}
 use lib.Dec.{leb}
 use Rattle.basics.specs.Refusals.{number_of}
@@ -20,6 +20,14 @@ use Rattle.report.specs.declared.Line.{Line}
 use Rattle.report.specs.Report.{decimal_within, decimal, report_of, line_of}
 use Rattle.report.specs.Internal.{Grown}
 use Rattle.io.specs.Digits.{last_digits, IsDigitCount}
+
+-- one byte stored behind the text
+pub grown_byte :
+    (line : Line) (b : ℕ) → line.length < 64 → length line.bytes ≡ 64
+    → Grown line (b ∷ []) record { bytes = set line.bytes line.length b; length = line.length + 1 }
+grown_byte line b room size =
+    let h : line.length < length line.bytes = omega arith in
+    record { text = rw (add-one, take-suc-set); count = refl; past = drop-set-lt (line.length + 1) line.bytes line.length b (omega arith) }
 
 -- one text more after another
 pub grown_grown : {a b c : Line} {x y : List ℕ} → Grown a x b → Grown b y c → Grown a (x ++ y) c

@@ -1,6 +1,7 @@
 // The page call for many windows: their cells and rules, one after another.
-// A function over a slice of structs is proved statement by statement, so `pass` and `show` are thin; all else works on
-// one window by value.
+// `pass` and `show` go through the slice of windows; all else works on one window by value.
+#![tactic(auto)]
+
 ghost use Rattle.std.specs.Prelude.{◌≡◌, ◌+◌, leb, length};
 ghost use Rattle.basics.specs.Refusals.{filling_reply};
 ghost use Rattle.windows.specs.Windows.{part_of, both_hold, PagesWindows, windows_of};

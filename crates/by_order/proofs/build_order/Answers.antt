@@ -1,4 +1,3 @@
-use borrow.Author.Rules.{rules}
 use native.Mathlib.Omega.{arith}
 use Rattle.table.proofs.Lent.{lent_fits}
 use Rattle.by_order.proofs.Calls.{few, distinct, builds_few, builds_short, builds_fault, builds_order}

@@ -1,12 +1,6 @@
 use borrow.Author.Rules.{rules}
-use Prim.Native.Nat.{◌≤◌, ◌<◌, ◌-◌}
-use mathlib.Core.Path.{◌≡◌, refl}
-use lib.ListN.{length}
-use Rattle.pairs.specs.Words.{table_of}
-use Rattle.rules.specs.Internal.{last_cells}
-use Rattle.ordered.specs.Internal.{Ready}
-use Rattle.lookup.proofs.Buffers.{filled_to, filled_more, filled_all}
-use Rattle.by_order.specs.Internal.{shown_cell, shown_rule, Kept}
+use mathlib.Core.Path.{refl}
+use Rattle.lookup.proofs.Buffers.{filled_more, filled_all}
 use Rattle.by_order.proofs.fill_kept.Goals as goal
 
 pub loop-i-init : goal.loop-i-init
@@ -16,9 +10,18 @@ pub overflow_add-i : goal.overflow_add-i
 overflow_add-i c = search (c.loop-i.invariant.1, c.loop-i-test.true, rules)
 
 pub loop-i-preserved : goal.loop-i-preserved
-loop-i-preserved c =
-    (search rules, search rules, search rules, search rules, search rules, search rules, search rules, search rules, search filled_more,
-    filled_more _ _ _ _ 0 c.loop-i-test.true (search rules) c.loop-i.invariant.9 c.recall-a.ensures.shows.1)
+loop-i-preserved c = (
+  search rules,
+  search rules,
+  search rules,
+  search rules,
+  search rules,
+  search rules,
+  search rules,
+  search rules,
+  search filled_more,
+  filled_more _ _ _ _ 0 c.loop-i-test.true (search rules) c.loop-i.invariant.9 c.recall-a.ensures.shows.1,
+)
 
 pub returns-clause-cells : goal.returns-clause-cells
 returns-clause-cells c = search filled_all

@@ -1,11 +1,10 @@
-use borrow.Author.Rules.{rules}
 use Prim.Native.Nat.{◌≤◌, ◌<◌, ◌-◌}
-use mathlib.Core.Path.{◌≡◌, refl}
+use mathlib.Core.Path.{◌≡◌}
 use lib.ListN.{length}
 use Rattle.pairs.specs.Words.{table_of}
 use Rattle.rules.specs.Internal.{last_cells}
 use Rattle.ordered.specs.Internal.{Ready}
-use Rattle.lookup.proofs.Buffers.{filled_to, filled_more, filled_all}
+use Rattle.lookup.proofs.Buffers.{filled_to}
 use Rattle.by_order.specs.Internal.{shown_cell, shown_rule, Kept}
 use Rattle.by_order.proofs.fill_kept.Given as goal
 

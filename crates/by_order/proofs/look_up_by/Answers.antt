@@ -1,4 +1,3 @@
-use borrow.Author.Rules.{rules}
 use Rattle.basics.proofs.Tests.{chosen}
 use Rattle.lookup.proofs.WholeWalks.{lent_links}
 use Rattle.by_order.proofs.Calls.{in_order, look_refused, no_links, look_plain, look_passed}

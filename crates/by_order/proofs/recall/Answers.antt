@@ -1,4 +1,3 @@
-use borrow.Author.Rules.{rules}
 use Rattle.by_order.proofs.Kept.{kept_cell, kept_rule, shows_cell, shows_rule, kept_more}
 use Rattle.by_order.proofs.recall.Goals as goal
 

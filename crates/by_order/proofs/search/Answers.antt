@@ -1,4 +1,3 @@
-use borrow.Author.Rules.{rules}
 use Rattle.basics.proofs.Tests.{chosen}
 use Rattle.by_order.proofs.Calls.{in_order, search_refused, search_passed}
 use Rattle.by_order.proofs.search.Goals as goal

@@ -1,4 +1,3 @@
-use borrow.Author.Rules.{rules}
 use Rattle.codes.proofs.character_code.Goals as goal
 
 pub returns-in-Character : goal.returns-in-Character

@@ -1,7 +1,6 @@
 use Rattle.basics.proofs.Tests.{as_told}
 use Rattle.lines.specs.Texts.{compiled_reply, compiled_column}
 use Rattle.codes.specs.Codes.{compile_code}
-use borrow.Author.Rules.{rules}
 use Rattle.codes.proofs.compile_code.Goals as goal
 
 pub returns-in-Refused : goal.returns-in-Refused

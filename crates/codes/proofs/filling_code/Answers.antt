@@ -1,7 +1,6 @@
 use Rattle.basics.specs.Refusals.{filling_reply}
 use Rattle.basics.proofs.Tests.{as_told}
 use Rattle.codes.specs.Codes.{filling_code}
-use borrow.Author.Rules.{rules}
 use Rattle.codes.proofs.filling_code.Goals as goal
 
 pub returns-in-Refused : goal.returns-in-Refused

@@ -1,9 +1,6 @@
 use borrow.Author.Rules.{rules}
-use Prim.Native.Nat.{◌≤◌, ◌-◌}
-use mathlib.Core.Path.{◌≡◌, refl}
-use lib.ListN.{length}
-use Rattle.codes.specs.Codes.{cell_count}
-use Rattle.codes.proofs.WholeTables.{all_over, numbers_length, cells_to, cells_more}
+use mathlib.Core.Path.{refl}
+use Rattle.codes.proofs.WholeTables.{all_over, numbers_length, cells_more}
 use Rattle.codes.proofs.put_cells.Goals as goal
 
 pub loop-i-init : goal.loop-i-init

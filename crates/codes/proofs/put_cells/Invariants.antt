@@ -1,9 +1,8 @@
-use borrow.Author.Rules.{rules}
 use Prim.Native.Nat.{◌≤◌, ◌-◌}
-use mathlib.Core.Path.{◌≡◌, refl}
+use mathlib.Core.Path.{◌≡◌}
 use lib.ListN.{length}
 use Rattle.codes.specs.Codes.{cell_count}
-use Rattle.codes.proofs.WholeTables.{all_over, numbers_length, cells_to, cells_more}
+use Rattle.codes.proofs.WholeTables.{cells_to}
 use Rattle.codes.proofs.put_cells.Given as goal
 
 -- the cells of the first i bytes are written, and the buffer keeps its length

@@ -1,10 +1,5 @@
 use borrow.Author.Rules.{rules}
-use Prim.Native.Nat.{◌≤◌, ◌-◌}
-use mathlib.Core.Path.{◌≡◌, refl}
-use lib.ListN.{length}
-use Rattle.lookup.proofs.Buffers.{filled_to}
-use Rattle.typing.specs.declared.Entry.{Entry}
-use Rattle.codes.specs.Codes.{cell_count, entry_code}
+use mathlib.Core.Path.{refl}
 use Rattle.codes.proofs.WholeTables.{all_more, all_over, entry_fits}
 use Rattle.codes.proofs.put_entries.Goals as goal
 

@@ -1,11 +1,9 @@
-use borrow.Author.Rules.{rules}
 use Prim.Native.Nat.{◌≤◌, ◌-◌}
-use mathlib.Core.Path.{◌≡◌, refl}
+use mathlib.Core.Path.{◌≡◌}
 use lib.ListN.{length}
 use Rattle.lookup.proofs.Buffers.{filled_to}
 use Rattle.typing.specs.declared.Entry.{Entry}
 use Rattle.codes.specs.Codes.{cell_count, entry_code}
-use Rattle.codes.proofs.WholeTables.{all_more, all_over, entry_fits}
 use Rattle.codes.proofs.put_entries.Given as goal
 
 -- what the first i cells type is written, and the buffer keeps its length

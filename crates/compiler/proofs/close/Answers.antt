@@ -1,5 +1,4 @@
 use Rattle.compiler.proofs.Call.{end_closed, end_open}
-use borrow.Author.Rules.{rules}
 use Rattle.compiler.proofs.close.Goals as goal
 
 pub returns-then-blocks-eq0 : goal.returns-then-blocks-eq0

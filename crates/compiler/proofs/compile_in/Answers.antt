@@ -14,7 +14,7 @@ returns-then-words-lt-TABLE_WORDS c =
 pub returns-then-text-gt-TEXT_LIMIT : goal.returns-then-text-gt-TEXT_LIMIT
 returns-then-text-gt-TEXT_LIMIT c =
     let e : Ensured c.args.charset c.args.text.now c.args.words.now (Refused TextTooLong 0 0) c.args.words.now =
-        too_long _ _ _ (search rules) (omega arith) (omega arith) in
+    too_long _ _ _ (search rules) (omega arith) (omega arith) in
     record { answer = e.0; column = e.1.0; words = e.1.1 }
 
 pub read_lines-requires : goal.read_lines-requires

@@ -1,5 +1,4 @@
 use Rattle.compiler.proofs.Effects.{effect_as, judged_as}
-use borrow.Author.Rules.{rules}
 use Rattle.compiler.proofs.effect_of.Goals as goal
 
 pub returns-in-Fault : goal.returns-in-Fault

@@ -1,8 +1,5 @@
-use borrow.Author.Rules.{rules}
-use Prim.Native.Nat.{◌+◌, ◌-◌}
 use native.Mathlib.Omega.{arith}
-use lib.ListN.{length}
-use Rattle.compiler.proofs.Call.{Come, come_first, come_on, come_refused, come_end}
+use Rattle.compiler.proofs.Call.{come_first, come_on, come_refused, come_end}
 use Rattle.compiler.proofs.read_lines.Goals as goal
 
 pub loop-at-init : goal.loop-at-init

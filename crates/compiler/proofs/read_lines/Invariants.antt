@@ -1,8 +1,6 @@
-use borrow.Author.Rules.{rules}
 use Prim.Native.Nat.{◌+◌, ◌-◌}
-use native.Mathlib.Omega.{arith}
 use lib.ListN.{length}
-use Rattle.compiler.proofs.Call.{Come, come_first, come_on, come_refused, come_end}
+use Rattle.compiler.proofs.Call.{Come}
 use Rattle.compiler.proofs.read_lines.Given as goal
 
 -- what the text still gives from the words and the state, which are ready

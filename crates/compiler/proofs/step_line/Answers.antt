@@ -1,6 +1,5 @@
 use Rattle.compiler.proofs.Effects.{leaves_trimmed}
 use lib.Seq.{length-take-le}
-use borrow.Author.Rules.{rules}
 use Rattle.compiler.proofs.step_line.Goals as goal
 
 pub slice_bounds-take_line-end : goal.slice_bounds-take_line-end

@@ -1,6 +1,5 @@
 use Rattle.basics.proofs.Tests.{tests}
 use Rattle.reader.proofs.Reader.{front_room, at_directive}
-use borrow.Author.Rules.{rules}
 use Rattle.reader.proofs.after_directive.Goals as goal
 
 pub returns-then-room-eq0-clause-value : goal.returns-then-room-eq0-clause-value

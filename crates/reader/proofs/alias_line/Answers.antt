@@ -1,6 +1,5 @@
 use Rattle.operands.proofs.Operands.{value_within, on_value}
 use Rattle.reader.specs.Reader.{alias_line}
-use borrow.Author.Rules.{rules}
 use Rattle.reader.proofs.alias_line.Goals as goal
 
 pub character_at-requires-in-Value : goal.character_at-requires-in-Value

@@ -1,6 +1,5 @@
 use Rattle.basics.proofs.Tests.{chosen}
 use Rattle.reader.specs.Reader.{block_line}
-use borrow.Author.Rules.{rules}
 use Rattle.reader.proofs.block_line.Goals as goal
 
 pub returns-then-may : goal.returns-then-may

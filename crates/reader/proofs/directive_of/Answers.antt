@@ -1,6 +1,5 @@
 use Rattle.basics.proofs.Tests.{chosen}
 use Rattle.reader.specs.Reader.{directive_of}
-use borrow.Author.Rules.{rules}
 use Rattle.reader.proofs.directive_of.Goals as goal
 
 pub returns-then-same_bytes : goal.returns-then-same_bytes

@@ -1,7 +1,6 @@
 use Rattle.operands.proofs.Operands.{value_within, dots_within, on_value, on_dots_value}
 use Rattle.reader.specs.Reader.{dots_line}
 use Rattle.reader.proofs.Reader.{finish_meaning}
-use borrow.Author.Rules.{rules}
 use Rattle.reader.proofs.dots_line.Goals as goal
 
 pub dots_operand_at-requires : goal.dots_operand_at-requires

@@ -1,7 +1,6 @@
 use Rattle.basics.proofs.Tests.{chosen}
 use Rattle.reader.specs.Reader.{finished}
 use Rattle.reader.proofs.Reader.{finish_text}
-use borrow.Author.Rules.{rules}
 use Rattle.reader.proofs.finish.Goals as goal
 
 pub returns-then-is_over : goal.returns-then-is_over

@@ -1,5 +1,4 @@
 use Rattle.reader.proofs.Reader.{front_read}
-use borrow.Author.Rules.{rules}
 use Rattle.reader.proofs.front_of.Goals as goal
 
 pub returns-clause-value : goal.returns-clause-value

@@ -1,11 +1,5 @@
 use borrow.Author.Rules.{rules}
-use Prim.Native.Nat.{◌*◌, ◌≤◌, ◌-◌}
-use mathlib.Core.Path.{◌≡◌}
-use lib.ListN.{length}
-use Rattle.basics.specs.Choice.{is_character}
-use Rattle.definitions.specs.Definitions.{typed_in}
-use Rattle.pairs.specs.Words.{definitions}
-use Rattle.pairs.proofs.Pairs.{rest, rest_all}
+use Rattle.pairs.proofs.Pairs.{rest_all}
 use Rattle.reader.specs.Conditions.{has_cell}
 use Rattle.reader.proofs.Conditions.{cell_here, cell_later, cell_none}
 use Rattle.reader.proofs.has_cell.Goals as goal

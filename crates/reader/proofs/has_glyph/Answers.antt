@@ -1,5 +1,4 @@
 use Rattle.reader.proofs.Conditions.{glyph_never, glyph_end}
-use borrow.Author.Rules.{rules}
 use Rattle.reader.proofs.has_glyph.Goals as goal
 
 pub returns-then-is_braille : goal.returns-then-is_braille

@@ -1,7 +1,6 @@
 use Rattle.basics.proofs.Tests.{chosen, as_told}
 use Rattle.reader.specs.Reader.{without_effect, if_holds}
 use Rattle.reader.proofs.Reader.{inert_block}
-use borrow.Author.Rules.{rules}
 use Rattle.reader.proofs.if_holds.Goals as goal
 
 pub returns-then-holds : goal.returns-then-holds

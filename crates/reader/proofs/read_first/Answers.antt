@@ -1,5 +1,4 @@
 use Rattle.reader.proofs.Reader.{first_else, first_end, first_other}
-use borrow.Author.Rules.{rules}
 use Rattle.reader.proofs.read_first.Goals as goal
 
 pub returns-then-same_bytes : goal.returns-then-same_bytes

@@ -1,7 +1,6 @@
 use Rattle.lines.proofs.Openings.{on_opening}
 use Rattle.reader.specs.Reader.{read_line}
 use Rattle.reader.proofs.Reader.{in_set}
-use borrow.Author.Rules.{rules}
 use Rattle.reader.proofs.read_line.Goals as goal
 
 pub returns-in-Fault : goal.returns-in-Fault

@@ -1,6 +1,5 @@
 use Rattle.basics.proofs.Tests.{as_told}
 use Rattle.windows.specs.Internal.{answer_of}
-use borrow.Author.Rules.{rules}
 use Rattle.windows.proofs.answer.Goals as goal
 
 pub returns-in-Refused : goal.returns-in-Refused

@@ -1,6 +1,5 @@
 use Rattle.table.proofs.Lent.{lent_fits}
 use Rattle.windows.proofs.Turns.{begin_short, begin_fault, begin_sound}
-use borrow.Author.Rules.{rules}
 use Rattle.windows.proofs.begin.Goals as goal
 
 pub returns-then-words-lt-TABLE_WORDS : goal.returns-then-words-lt-TABLE_WORDS

@@ -1,5 +1,4 @@
 use Rattle.basics.proofs.Tests.{on_both}
-use borrow.Author.Rules.{rules}
 use Rattle.windows.proofs.both_fit.Goals as goal
 
 pub returns-then-fits : goal.returns-then-fits

@@ -1,5 +1,4 @@
 use Rattle.windows.proofs.Turns.{decide_wide, decide_writing, decide_no_scalar}
-use borrow.Author.Rules.{rules}
 use Rattle.windows.proofs.decide.Goals as goal
 
 pub returns-in-Nowhere : goal.returns-in-Nowhere

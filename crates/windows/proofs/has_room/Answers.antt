@@ -1,5 +1,4 @@
 use Rattle.basics.proofs.Tests.{on_both}
-use borrow.Author.Rules.{rules}
 use Rattle.windows.proofs.has_room.Goals as goal
 
 pub returns-then-both_fit : goal.returns-then-both_fit

@@ -1,11 +1,8 @@
-use borrow.Author.Rules.{rules}
 use Prim.Native.Nat.{◌*◌, ◌-◌, ◌/◌, ◌≤◌}
-use mathlib.Core.Path.{◌≡◌, refl}
-use native.Mathlib.Omega.{arith}
+use mathlib.Core.Path.{◌≡◌}
 use lib.ListN.{length, drop}
 use Rattle.windows.specs.Windows.{windows_of}
 use Rattle.windows.specs.Internal.{state, pass_of}
-use Rattle.windows.proofs.Passes.{numbers_next, numbers_done}
 use Rattle.windows.proofs.pass_numbers.Given as goal
 
 abbrev pub invariant-loop-i : goal.invariant-loop-i

@@ -1,5 +1,4 @@
 use Rattle.windows.proofs.Outputs.{part_put}
-use borrow.Author.Rules.{rules}
 use Rattle.windows.proofs.put.Goals as goal
 
 pub returns-clause-cells : goal.returns-clause-cells

@@ -1,5 +1,4 @@
 use Rattle.windows.proofs.Shows.{shows_all}
-use borrow.Author.Rules.{rules}
 use Rattle.windows.proofs.show_numbers.Goals as goal
 
 pub returns : goal.returns

@@ -1,5 +1,4 @@
 use Rattle.basics.proofs.Tests.{chosen}
-use borrow.Author.Rules.{rules}
 use Rattle.windows.proofs.still_wide.Goals as goal
 
 pub returns-then-fits : goal.returns-then-fits

@@ -1,5 +1,4 @@
 use Rattle.windows.proofs.Turns.{turn_measuring, turn_wide, turn_writing, turn_refused}
-use borrow.Author.Rules.{rules}
 use Rattle.windows.proofs.turn.Goals as goal
 
 pub returns-in-Measuring : goal.returns-in-Measuring

@@ -1,5 +1,4 @@
 use Rattle.windows.proofs.Turns.{room_of, write_none, write_put}
-use borrow.Author.Rules.{rules}
 use Rattle.windows.proofs.write.Goals as goal
 
 pub put-to-requires : goal.put-to-requires
