@@ -1,12 +1,14 @@
 // Runs a case: a line of five fields that says a call, a text, a question, the answer that is expected and what it is
 // about. Behind the call stands the local character set, ISO 8859-1 where none is named.
+#![tactic(auto)]
+
 use answers::Text;
 use basics::Refusal;
 use lines::{Compiled, TEXT_LIMIT};
 use listing::{LISTING_LIMIT, Listed};
 use replies::UNWRITTEN;
-use table::{PAIR_WORDS, TABLE_WORDS};
 use scalars::ISO_8859_1;
+use table::{PAIR_WORDS, TABLE_WORDS};
 
 // Two words more than a table has.
 const WORDS: usize = TABLE_WORDS + 2;

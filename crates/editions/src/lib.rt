@@ -1,4 +1,6 @@
 // The compile call of text tables, in the edition and the local character set that the caller names.
+#![tactic(auto)]
+
 ghost use Rattle.std.specs.Prelude.{◌≡◌, length};
 ghost use Rattle.editions.specs.Editions.{edition_reply, edition_column, edition_words, edition_cells};
 ghost use Rattle.lines.specs.Texts.{compiled_reply, compiled_column};

@@ -1,4 +1,6 @@
 // The calls exported for C and Rust. Each answers one number; codes/specs/Codes.antt says how.
+#![tactic(auto)]
+
 ghost use Rattle.std.specs.Prelude.{◌≡◌, length};
 ghost use Rattle.basics.specs.Buffers.{written_reply, written_over};
 ghost use Rattle.editions.specs.Editions.{edition_reply, edition_column, edition_words};

@@ -77,6 +77,9 @@ module _ (ws cs cells rules : List ℕ) where
   abbrev Settles : Reply (Unit {0}) → List ℕ → List ℕ → Type 0
   Settles = Pages (λ reply. reply) plan cs cells rules
 
+  pub page_refused : {number place : ℕ} → plan ≡ refused number place → Settles (refused number place) cells rules
+  page_refused e = pages_refused e
+
   module _ {r : Checked} (long : table_words ≤ length ws) (wide : length cs ≤ length cells) (deep : length cs ≤ length rules) (p : r ≡ check_of ws) where
     planned : plan ≡ and_then (lent_table ws) (λ ds. unless_at (first_no_scalar cs 0) (lookup (charset_of ws) (table ds)))
     unfolding page_plan

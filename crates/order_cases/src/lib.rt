@@ -1,5 +1,7 @@
 // The answers to cases about orders. A question that goes by an order says behind a slash how many of its words are
 // lent, 1,024 where it does not, and behind a second one the words that are put over its front.
+#![tactic(auto)]
+
 ghost use Rattle.std.specs.Prelude.{◌≤◌, length};
 
 use answers::Text;

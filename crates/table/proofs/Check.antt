@@ -119,6 +119,21 @@ module _ (next : Checked) (ws : List ℕ) (k c w : ℕ) (inv : if_fresh (definit
 pub pairs_part : (ws : List ℕ) → table_words ≤ length ws → length (take pair_words ws) ≡ pair_words
 pairs_part ws h = length-take-le pair_words ws (omega arith)
 
+-- p is what the check of the pairs answered, and s what a call answered of the two words behind them
+module _ (ws : List ℕ) (p : Checked) (pairs : p ≡ check_from [] (take pair_words ws)) where
+  pub check_fault : (pair : ℕ) → p ≡ FaultAt pair → FaultAt pair ≡ check_of ws
+  unfolding check_of
+  check_fault pair q = rw (← pairs, q)
+
+  module _ (n : ℕ) (s : Bool) (q : p ≡ Sound n) (end : s ≡ is_sound_end (charset_of ws) (get_or ws (pair_words + 1) 0)) where
+    pub check_sound : s ≡ true → Sound n ≡ check_of ws
+    unfolding check_of
+    check_sound t = rw (← pairs, q, ← end, t)
+
+    pub check_end : s ≡ false → FaultAt definition_limit ≡ check_of ws
+    unfolding check_of
+    check_end t = rw (← pairs, q, ← end, t)
+
 -- p is what the check of the pairs answered
 pub check_whole : (ws : List ℕ) (p : Checked) {r : Checked} → p ≡ check_from [] (take pair_words ws) → r ≡ and_end (is_sound_end (charset_of ws) (get_or ws (pair_words + 1) 0)) p → r ≡ check_of ws
 unfolding check_of

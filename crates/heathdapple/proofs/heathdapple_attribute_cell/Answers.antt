@@ -1,5 +1,4 @@
 use Rattle.codes.proofs.Codes.{attribute_code_lem}
-use borrow.Author.Rules.{rules}
 use Rattle.heathdapple.proofs.heathdapple_attribute_cell.Goals as goal
 
 pub returns-in-Accepted : goal.returns-in-Accepted

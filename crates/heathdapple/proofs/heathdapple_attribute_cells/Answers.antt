@@ -1,4 +1,3 @@
-use borrow.Author.Rules.{rules}
 use Rattle.lines.specs.Texts.{compiled_reply, compiled_column}
 use Rattle.codes.proofs.WholeTables.{short_code, short_column, short_left, long_code, long_column, cells_left}
 use Rattle.heathdapple.proofs.heathdapple_attribute_cells.Goals as goal

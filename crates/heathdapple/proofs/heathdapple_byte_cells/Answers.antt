@@ -1,6 +1,5 @@
 use Rattle.lines.specs.Texts.{compiled_reply, compiled_column}
 use Rattle.codes.proofs.WholeTables.{short_code, short_column, long_code, long_column, bytes_short, bytes_left}
-use borrow.Author.Rules.{rules}
 use Rattle.heathdapple.proofs.heathdapple_byte_cells.Goals as goal
 
 pub returns-then-cells-lt-CELL_COUNT-clause-code : goal.returns-then-cells-lt-CELL_COUNT-clause-code

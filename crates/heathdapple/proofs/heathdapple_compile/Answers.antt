@@ -1,6 +1,5 @@
 use Rattle.codes.proofs.Codes.{code_of_lem}
 use Rattle.lines.specs.Texts.{compiled_reply, compiled_column}
-use borrow.Author.Rules.{rules}
 use Rattle.heathdapple.proofs.heathdapple_compile.Goals as goal
 
 pub returns : goal.returns

@@ -1,4 +1,3 @@
-use borrow.Author.Rules.{rules}
 use Rattle.listing.specs.Listing.{listed_reply}
 use Rattle.codes.proofs.Codes.{no_column, code_of_lem}
 use Rattle.heathdapple.proofs.heathdapple_list.Goals as goal

@@ -2,7 +2,6 @@ use Rattle.codes.proofs.Codes.{no_column, code_of_lem}
 use Rattle.lookup.proofs.WholeWalks.{shown_small}
 use Rattle.lookup.specs.Calls.{looked_reply}
 use Rattle.codes.specs.Codes.{answer_code}
-use borrow.Author.Rules.{rules}
 use Rattle.heathdapple.proofs.heathdapple_look_up.Goals as goal
 
 pub answer_code-requires : goal.answer_code-requires

@@ -1,4 +1,3 @@
-use borrow.Author.Rules.{rules}
 use Rattle.lookup.specs.Calls.{looked_reply}
 use Rattle.by_order.proofs.Plain.{ordered_small}
 use Rattle.codes.specs.Codes.{answer_code}

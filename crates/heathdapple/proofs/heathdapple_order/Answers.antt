@@ -1,4 +1,3 @@
-use borrow.Author.Rules.{rules}
 use Rattle.by_order.specs.Calls.{built_reply}
 use Rattle.codes.proofs.Codes.{no_column, code_of_lem}
 use Rattle.heathdapple.proofs.heathdapple_order.Goals as goal

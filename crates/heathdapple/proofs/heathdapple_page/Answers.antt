@@ -1,6 +1,5 @@
 use Rattle.lookup.proofs.Replies.{pages_given}
 use Rattle.codes.specs.Codes.{filling_code}
-use borrow.Author.Rules.{rules}
 use Rattle.heathdapple.proofs.heathdapple_page.Goals as goal
 
 pub returns : goal.returns

@@ -1,4 +1,3 @@
-use borrow.Author.Rules.{rules}
 use Rattle.lookup.proofs.Replies.{pages_given}
 use Rattle.heathdapple.proofs.heathdapple_page_by.Goals as goal
 

@@ -1,4 +1,3 @@
-use borrow.Author.Rules.{rules}
 use Rattle.by_order.specs.Calls.{searched_reply}
 use Rattle.by_order.proofs.Plain.{few_compared}
 use Rattle.codes.specs.Codes.{sought_code}

@@ -1,5 +1,4 @@
 use Rattle.codes.proofs.Codes.{typed_code_lem}
-use borrow.Author.Rules.{rules}
 use Rattle.heathdapple.proofs.heathdapple_typed.Goals as goal
 
 pub returns-in-Filled : goal.returns-in-Filled

@@ -1,7 +1,4 @@
-use Prim.Native.Nat.{◌-◌, ◌≤◌}
-use mathlib.Core.Logic.{⊎_elim}
 use borrow.Author.Rules.{rules}
-use lib.ListN.{length}
 use Rattle.order_cases.proofs.written_end.Goals as goal
 use Rattle.order_cases.proofs.written_end.Goals.{then-order-i, else-order-i}
 

@@ -1,5 +1,5 @@
 use Rattle.basics.proofs.Tests.{chosen}
-use Rattle.rules.proofs.Choices.{local_asked, rule_fits, rule_passed}
+use Rattle.rules.proofs.Choices.{local_asked, rule_fits, rule_passed_on}
 use Rattle.ordered.proofs.answer_by.Goals as goal
 
 pub returns-then-is_braille : goal.returns-then-is_braille
@@ -9,4 +9,4 @@ pub passed_on-requires : goal.passed_on-requires
 passed_on-requires c = search rule_fits
 
 pub returns : goal.returns
-returns c = search (chosen, rule_passed, local_asked)
+returns c = search (chosen, rule_passed_on, local_asked)
