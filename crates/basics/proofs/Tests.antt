@@ -7,9 +7,8 @@ use native.Mathlib.Omega.{arith}
 use lib.Dec.{eqb}
 use lib.ListN.{length, length-map}
 use borrow.Author.Tests.{lt-ltb, le-ltb, le-leb, lt-leb, eq-eqb, ne_eqb, eqb-true, eqb-false}
-use Rattle.basics.specs.Choice.{pick, if_character}
-use Rattle.basics.specs.declared.Maybe.{Maybe}
-use Rattle.basics.specs.declared.Maybe.TheVariants.{Nothing, Character}
+use Rattle.basics.specs.Choice.{pick, if_some, if_ok}
+use Rattle.std.specs.Prelude.{Option, None, Some, Result, Ok, Err}
 
 pub ruleset tests = (lt-ltb, le-ltb, le-leb, lt-leb, eq-eqb, ne_eqb)
 
@@ -27,15 +26,25 @@ module _ {A : Type 0} (r t : Bool) (a b v : A) (e : r ≡ t) where
 
 pub ruleset chosen = (chosen_first, chosen_other)
 
--- r is what a call answered of a character that there may be
-module _ {A : Type 0} (r m : Maybe) (none : A) (some : ℕ → A) (v : A) (e : r ≡ m) where
-  pub character_none : r ≡ Nothing → v ≡ none → v ≡ if_character m none some
-  character_none q h = rw (← e, q) h
+-- r is what a call answered of a value that there may be
+module _ {A B : Type 0} (r m : Option A) (none : B) (some : A → B) (v : B) (e : r ≡ m) where
+  pub value_none : r ≡ None → v ≡ none → v ≡ if_some m none some
+  value_none q h = rw (← e, q) h
 
-  pub character_some : (c : ℕ) → r ≡ Character c → v ≡ some c → v ≡ if_character m none some
-  character_some c q h = rw (← e, q) h
+  pub value_some : (a : A) → r ≡ Some a → v ≡ some a → v ≡ if_some m none some
+  value_some a q h = rw (← e, q) h
 
-pub ruleset on_character = (character_none, character_some)
+pub ruleset on_value = (value_none, value_some)
+
+-- r is what a call answered that may fail
+module _ {A B E : Type 0} (r m : Result A E) (more : A → Result B E) (v : Result B E) (e : r ≡ m) where
+  pub result_ok : (a : A) → r ≡ Ok a → v ≡ more a → v ≡ if_ok m more
+  result_ok a q h = rw (← e, q) h
+
+  pub result_err : (f : E) → r ≡ Err f → v ≡ Err f → v ≡ if_ok m more
+  result_err f q h = rw (← e, q) h
+
+pub ruleset on_result = (result_ok, result_err)
 
 -- x is the case k, and f goes by the case
 pub as_told : {A B : Type 0} (f : A → B) {x k : A} {v : B} → x ≡ k → v ≡ f k → v ≡ f x

@@ -1,9 +1,8 @@
 -- The refusals by number, and what any call answers in the numbers of the papers.
-use Rattle.std.specs.Prelude.{ℕ}
+use Rattle.std.specs.Prelude.{ℕ, Result, Ok, Err}
 use Rattle.basics.specs.declared.Refusal.{Refusal}
 use Rattle.basics.specs.declared.Refusal.TheVariants as R
-use Rattle.basics.specs.declared.Filling.{Filling}
-use Rattle.basics.specs.declared.Filling.TheVariants as F
+use Rattle.basics.specs.declared.Refused.{Refused}
 
 -- document 01's table "Numbers of refusal", and behind it those of document 02
 abbrev pub number_of : Refusal → ℕ
@@ -36,10 +35,10 @@ pub data Reply (A : Type 0) : Type 0 where
   answered : A → Reply A
   refused : ℕ → ℕ → Reply A
 
--- the number and place of each case of a call that fills; it has no value
-abbrev pub filling_reply : Filling → Reply (Unit {0})
-filling_reply F.Filled = answered tt
-filling_reply (F.Refused refusal place) = refused (number_of refusal) place
+-- the number and place of each refusal of a call, and its value
+abbrev pub reply_of : {A : Type 0} → Result A Refused → Reply A
+reply_of (Ok a) = answered a
+reply_of (Err e) = refused (number_of e.refusal) e.place
 
 -- a call that goes on with the value of an earlier answer; a refusal stands
 abbrev pub and_then : {A B : Type 0} → Reply A → (A → Reply B) → Reply B
