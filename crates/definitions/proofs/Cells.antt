@@ -1,4 +1,6 @@
 -- The explicit cell of a character, as its alias walk tells it.
+use Rattle.std.specs.Prelude.{Option, None, Some}
+use Rattle.definitions.specs.declared.Meaning.{Meaning}
 use Prim.Native.Nat.{ℕ, zero, suc, ◌+◌}
 use mathlib.Core.Path.{◌≡◌, refl}
 use native.Mathlib.Omega.{arith}

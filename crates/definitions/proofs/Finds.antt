@@ -1,17 +1,17 @@
 -- What is found where definitions follow others: in either part, kept by later ones, the same where no later one is for the character.
+use Rattle.std.specs.Prelude.{Option, None, Some, is_some}
 use Prim.Native.Nat.{ℕ}
 use mathlib.Core.Path.{◌≡◌, refl}
 use mathlib.Core.Bool.{Bool, true, false}
 use mathlib.Core.List.{List, [], ◌∷◌, ◌++◌}
 use lib.Dec.{eqb}
 use Rattle.basics.specs.Choice.{pick}
-use Rattle.basics.specs.declared.Maybe.TheVariants as M
 use Rattle.basics.proofs.Tests.{by_cases}
 use Rattle.scalars.specs.Characters.{is_braille}
 use Rattle.definitions.specs.declared.Meaning.{Meaning}
 use Rattle.definitions.specs.declared.Definition.{Definition}
 use Rattle.definitions.specs.Definitions.{find, found_in, target_of, table, alias_of}
-use Rattle.definitions.specs.Effects.{is_found, is_defined}
+use Rattle.definitions.specs.Effects.{is_defined}
 
 -- the first that is found
 abbrev pub or_else : Option Meaning → Option Meaning → Option Meaning
@@ -33,7 +33,7 @@ find_append [] ys c = refl
 find_append (d ∷ xs) ys c = rw (find_append xs ys c) (pick_or_else (eqb d.character c) d.meaning (find xs c) (find ys c))
 
 -- a character without a definition is found nowhere
-pub not_found : (f : Option Meaning) → is_found f ≡ false → f ≡ None
+pub not_found : (f : Option Meaning) → is_some f ≡ false → f ≡ None
 not_found None e = refl
 not_found (Some meaning) e = cc
 

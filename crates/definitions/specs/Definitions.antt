@@ -1,7 +1,6 @@
 -- Definitions in order of effect: what a character means, its explicit cell, its alias walk, what a cell types.
-use Rattle.std.specs.Prelude.{ℕ, zero, suc, ◌+◌, ◌%◌, ◌≤◌, ◌≡◌, Bool, false, List, [], ◌∷◌, length, eqb}
+use Rattle.std.specs.Prelude.{ℕ, zero, suc, ◌+◌, ◌%◌, ◌≤◌, ◌≡◌, Bool, false, List, [], ◌∷◌, length, eqb, Option, None, Some}
 use Rattle.basics.specs.Choice.{pick}
-use Rattle.std.specs.Prelude.{Option, None, Some}
 use Rattle.scalars.specs.Characters.{is_braille}
 use Rattle.definitions.specs.declared.Meaning.{Meaning}
 use Rattle.definitions.specs.declared.Meaning.TheVariants.{Typed, Shown, Alias}

@@ -1,18 +1,15 @@
 -- What refuses a definition that is to take effect after others: 22, 11, 12, 13, in this order.
-use Rattle.std.specs.Prelude.{ℕ, Bool, true, false, List, length, eqb, leb}
+use Rattle.std.specs.Prelude.{ℕ, Bool, false, List, length, eqb, leb, Some, is_some, Result, Ok, Err}
 use Rattle.basics.specs.Choice.{pick, if_some}
+use Rattle.basics.specs.declared.Refusal.{Refusal}
 use Rattle.basics.specs.declared.Refusal.TheVariants.{BrailleRow, AlreadyDefined, AliasLoop, TableFull}
 use Rattle.scalars.specs.Characters.{is_braille}
 use Rattle.definitions.specs.declared.Definition.{Definition}
 use Rattle.definitions.specs.Definitions.{find, target_of, table, walk}
 
-abbrev pub is_found : Option Meaning → Bool
-is_found None = false
-is_found (Some meaning) = true
-
 -- one character has at most one definition
 abbrev pub is_defined : List Definition → ℕ → Bool
-is_defined ds c = is_found (find ds c)
+is_defined ds c = is_some (find ds c)
 
 -- an alias of x that would make a walk return to x: the walk of its target comes to x, alias to itself included.
 -- x has no definition yet, since 11 comes first, so a walk that comes to x ends there
