@@ -62,6 +62,7 @@ impl Finder for Pairs<'_> {
 }
 
 // What a second word says, whatever it holds.
+#[tactic(auto, using(basics::proofs::Tests::tests), unfolding(crate::specs::Words::meaning_of))]
 pub fn meaning_of(w: u32) -> Meaning
     ensures { result ≡ meaning_of w }
 {
@@ -73,6 +74,7 @@ pub fn meaning_of(w: u32) -> Meaning
 }
 
 // What a table has for a character. One of the braille row shows its low eight bits, and its definitions are not asked.
+#[tactic(auto, using(basics::proofs::Tests::chosen), unfolding(definitions::specs::Definitions::found_in))]
 fn found_in<T: Finder>(finder: &T, character: u32) -> Option<Meaning>
     ensures { result ≡ found_in (T.definitions finder.now) character }
 {
@@ -83,6 +85,7 @@ fn found_in<T: Finder>(finder: &T, character: u32) -> Option<Meaning>
 }
 
 // The explicit cell of a character.
+#[tactic(auto, unfolding(definitions::specs::Definitions::explicit))]
 pub fn explicit_cell<T: Finder>(finder: &T, character: u32) -> Option<u8>
     ensures { result ≡ explicit (table (T.definitions finder.now)) character }
 {
@@ -110,6 +113,7 @@ pub fn walk_from<T: Finder>(finder: &T, character: u32) -> Walked
 }
 
 // Whether a definition would close a loop with those so far.
+#[tactic(auto, using(basics::proofs::Tests::on_value))]
 pub fn closes_loop<T: Finder>(finder: &T, d: Definition) -> bool
     ensures { result ≡ closes_loop (T.definitions finder.now) d }
 {
@@ -120,6 +124,7 @@ pub fn closes_loop<T: Finder>(finder: &T, d: Definition) -> bool
 }
 
 // Whether a definition may take effect after those so far: 22, 11, 12, 13 in this order.
+#[tactic(auto, using(definitions::proofs::Admission::judged), unfolding(definitions::specs::Effects::verdict_of))]
 pub fn judge<T: Finder>(finder: &T, d: Definition) -> Result<(), Refusal>
     ensures { result ≡ verdict_of (T.definitions finder.now) d }
 {
