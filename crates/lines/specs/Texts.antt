@@ -34,7 +34,8 @@ opening_of line =
     pick (ltb line_limit (length line)) (Err long) valid
 
 -- what follows from a line that opens so: from nothing to read, from its directive; a fault stands
-abbrev pub if_directive : {A : Type 0} → Result Opening LineFault → Result A LineFault → Result A LineFault → Result A LineFault
+abbrev pub if_directive : {A : Type 0} → Result Opening LineFault → Result A LineFault → Result A LineFault
+    → Result A LineFault
 if_directive (Err fault) skipped read = Err fault
 if_directive (Ok Skip) skipped read = skipped
 if_directive (Ok Directive) skipped read = read
