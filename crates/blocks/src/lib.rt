@@ -8,7 +8,7 @@ ghost use Rattle.blocks.specs.Blocks.{depth_limit, is_taken, inert};
 const DEPTH_LIMIT: usize = 8;
 
 // An open block: whether its first half is taken, whether its second is, and whether its `else` is past.
-#[derive(Clone, Copy)]
+#[derive(Clone, Copy, Default)]
 pub struct OpenBlock {
     pub first: bool,
     pub second: bool,
@@ -16,7 +16,7 @@ pub struct OpenBlock {
 }
 
 // An open block and the number of the line that opened it.
-#[derive(Clone, Copy)]
+#[derive(Clone, Copy, Default)]
 pub struct Level {
     pub block: OpenBlock,
     pub start: usize,
@@ -80,16 +80,8 @@ impl Blocks {
     pub fn new() -> Blocks
         ensures { result ≡ no_blocks }
     {
-        let unused = Level {
-            block: OpenBlock {
-                first: false,
-                second: false,
-                past: false,
-            },
-            start: 0,
-        };
         Blocks {
-            levels: [unused; DEPTH_LIMIT],
+            levels: [Level::default(); DEPTH_LIMIT],
             depth: 0,
         }
     }
