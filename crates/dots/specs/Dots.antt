@@ -1,5 +1,6 @@
 -- The dots operand and the cell operand, from the position of their first byte on.
-use Rattle.std.specs.Prelude.{ℕ, ◌+◌, ◌-◌, ◌/◌, ◌%◌, ◌^◌, ◌&&◌, List, [], ◌∷◌, get_or, drop, eqb, leb, Option, None, Some}
+use Rattle.std.specs.Prelude.{ℕ, ◌+◌, ◌-◌, ◌/◌, ◌%◌, ◌^◌, ◌&&◌, List, [], ◌∷◌, get_or, drop, eqb, leb}
+use Rattle.std.specs.Prelude.{Option, None, Some}
 use Rattle.basics.specs.Choice.{pick, if_some}
 use Rattle.lines.specs.Words.{is_blank}
 use Rattle.lines.specs.declared.Parsed.{Parsed}
