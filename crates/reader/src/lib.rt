@@ -6,7 +6,7 @@ ghost use Rattle.std.specs.Prelude.{◌≡◌, ◌≤◌, length, Ok};
 ghost use Rattle.lines.specs.Internal.{NextWord};
 ghost use Rattle.pairs.specs.Words.{charset_of, definitions};
 ghost use Rattle.reader.specs.Conditions.{has_glyph, has_cell};
-ghost use Rattle.reader.specs.Reader.{condition_of, directive_of, finished, dots_meaning, dots_line, alias_line, condition_at, glyph_condition, cell_condition, after_directive, front_of, if_holds, read_from, block_line, read_first, read_line};
+ghost use Rattle.reader.specs.Reader.{condition_of, directive_of, finished, dots_meaning, dots_line, alias_line, condition_at, glyph_condition, cell_condition, after_directive, front_of, has_room, if_holds, read_from, block_line, read_first, read_line};
 ghost use Rattle.reader.specs.Internal.{FrontWithin};
 
 use basics::Refusal;
@@ -52,6 +52,7 @@ struct Context<'a> {
 
 impl Context<'_> {
     // Whether `ifGlyph` holds: the end of the alias walk has a cell exactly where rule 3 or 4 answers.
+    #[tactic(auto, using(crate::proofs::Conditions::glyph_never, crate::proofs::Conditions::glyph_end))]
     fn has_glyph(&self, c: u32) -> bool
         ensures { result ≡ has_glyph self.now.charset (definitions self.now.pairs.count self.now.pairs.words.now) c }
     {
@@ -75,6 +76,7 @@ impl Context<'_> {
     }
 
     // `char`, `glyph` and `byte` from behind the directive word on.
+    #[tactic(auto, unfolding(crate::specs::Reader::dots_line))]
     fn dots_line(
         &self,
         line: &[u8],
@@ -98,6 +100,7 @@ impl Context<'_> {
     }
 
     // `alias` from behind the directive word on.
+    #[tactic(auto, unfolding(crate::specs::Reader::alias_line))]
     fn alias_line(&self, line: &[u8], at: usize, left: usize) -> Result<Reading, LineFault>
         requires { at ≤ length line.now }
         ensures { result ≡ alias_line self.now.charset line.now at left }
@@ -119,6 +122,7 @@ impl Context<'_> {
     }
 
     // `ifGlyph` and `ifNotGlyph` from behind the directive word on.
+    #[tactic(auto, unfolding(crate::specs::Reader::glyph_condition))]
     fn glyph_condition(&self, line: &[u8], at: usize, wanted: bool) -> Result<Front, LineFault>
         requires { at ≤ length line.now }
         ensures value { result ≡ glyph_condition self.now.charset (definitions self.now.pairs.count self.now.pairs.words.now) wanted line.now at }
@@ -129,6 +133,7 @@ impl Context<'_> {
     }
 
     // `ifCell` and `ifNotCell` from behind the directive word on.
+    #[tactic(auto, unfolding(crate::specs::Reader::cell_condition))]
     fn cell_condition(&self, line: &[u8], at: usize, wanted: bool) -> Result<Front, LineFault>
         requires { at ≤ length line.now }
         ensures value { result ≡ cell_condition (definitions self.now.pairs.count self.now.pairs.words.now) wanted line.now at }
@@ -140,6 +145,7 @@ impl Context<'_> {
 
     // What stands behind a directive word, with room for so many conditions; the word begins `left` bytes before the line's
     // end.
+    #[tactic(auto, using(crate::proofs::Reader::front_room))]
     fn after_directive(
         &self,
         line: &[u8],
@@ -169,6 +175,7 @@ impl Context<'_> {
     }
 
     // The directive at the front of what is left of a line, whose first word is `w`.
+    #[tactic(auto, using(crate::proofs::Reader::front_read))]
     fn front_of(&self, line: &[u8], w: Word, room: usize) -> Result<Front, LineFault>
         requires { NextWord line.now 0 w }
         ensures value { result ≡ front_of self.now.charset (definitions self.now.pairs.count self.now.pairs.words.now) room line.now }
@@ -200,6 +207,7 @@ impl Context<'_> {
     }
 
     // A line that is no comment.
+    #[tactic(auto, using(crate::proofs::Reader::first))]
     fn read_first(&self, around: Around, line: &[u8]) -> Result<Reading, LineFault>
         ensures { result ≡ read_first self.now.charset (definitions self.now.pairs.count self.now.pairs.words.now) around line.now }
     {
@@ -217,6 +225,7 @@ impl Context<'_> {
 }
 
 // The directive that a word of a condition asks for.
+#[tactic(auto, using(basics::proofs::Tests::chosen), unfolding(crate::specs::Reader::condition_of))]
 fn condition_of(w: &[u8]) -> Option<Directive>
     ensures { result ≡ condition_of w.now }
 {
@@ -236,6 +245,7 @@ fn condition_of(w: &[u8]) -> Option<Directive>
 }
 
 // The directive that a word asks for.
+#[tactic(auto, using(basics::proofs::Tests::chosen), unfolding(crate::specs::Reader::directive_of))]
 fn directive_of(w: &[u8]) -> Option<Directive>
     ensures { result ≡ directive_of w.now }
 {
@@ -264,6 +274,7 @@ fn directive_of(w: &[u8]) -> Option<Directive>
 }
 
 // `reading`, or the fault of text behind the last operand.
+#[tactic(auto, using(basics::proofs::Tests::chosen), unfolding(crate::specs::Reader::finished))]
 fn finish(line: &[u8], at: usize, reading: Reading) -> Result<Reading, LineFault>
     requires { at ≤ length line.now }
     ensures { result ≡ finished line.now at reading }
@@ -289,6 +300,7 @@ fn dots_meaning(typed: bool, dots: u8) -> Meaning
 }
 
 // Behind a condition's operand: a further directive, or a block opens.
+#[tactic(auto, using(basics::proofs::Tests::chosen), unfolding(crate::specs::Reader::condition_at))]
 fn condition_at(line: &[u8], after: usize, holds: bool) -> Front
     requires { after ≤ length line.now }
     ensures value { result ≡ condition_at line.now after holds }
@@ -304,6 +316,7 @@ fn condition_at(line: &[u8], after: usize, holds: bool) -> Front
 }
 
 // Whether there is room for a condition whose word begins `left` bytes before the line's end.
+#[tactic(auto, using(basics::proofs::Tests::tests))]
 fn has_room(room: usize, left: usize) -> Result<(), LineFault>
     ensures { result ≡ has_room room left }
 {
@@ -317,6 +330,7 @@ fn has_room(room: usize, left: usize) -> Result<(), LineFault>
 }
 
 // Behind a failed condition, or inside lines not taken, only a block that opens counts, beside a fault.
+#[tactic(auto, using(basics::proofs::Tests::chosen, crate::proofs::Reader::inert_block), unfolding(crate::specs::Reader::if_holds))]
 fn if_holds(holds: bool, reading: Reading) -> Reading
     ensures { result ≡ if_holds holds reading }
 {
@@ -330,6 +344,7 @@ fn if_holds(holds: bool, reading: Reading) -> Reading
 }
 
 // `else` or `endIf` from behind its word on, which begins `left` bytes before the line's end.
+#[tactic(auto, unfolding(crate::specs::Reader::block_line))]
 fn block_line(
     line: &[u8],
     at: usize,
@@ -350,8 +365,9 @@ fn block_line(
 }
 
 // A whole line, without its end.
+#[tactic(auto, using(lines::proofs::Openings::on_opening), unfolding(crate::specs::Reader::read_line))]
 pub fn read_line(pairs: Pairs<'_>, around: Around, line: &[u8]) -> Result<Reading, LineFault>
-    ensures { result ≡ read_line (charset_of pairs.words.now) (definitions pairs.count pairs.words.now) around line.now }
+    ensures { result ≡ read_line (charset_of pairs.entry.words.now) (definitions pairs.entry.count pairs.entry.words.now) around line.now }
 {
     match lines::open_line(line)? {
         Opening::Skip => Ok(Reading::NoEffect),
