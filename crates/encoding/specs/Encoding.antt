@@ -1,5 +1,7 @@
--- What UTF-8 is, from the scalar values that it stands for; and what is claimed by it of a line, of the words of a line, and of a plain operand.
-use Rattle.std.specs.Prelude.{ℕ, ◌+◌, ◌/◌, ◌%◌, ◌≤◌, ◌<◌, ◌≡◌, ◌≢◌, Bool, true, ◌||◌, List, [], ◌∷◌, ◌++◌, length, take, drop, get_or, ltb}
+-- What UTF-8 is, from the scalar values that it stands for; and what is claimed by it of a line, of the words of a
+-- line, and of a plain operand.
+use Rattle.std.specs.Prelude.{ℕ, ◌+◌, ◌/◌, ◌%◌, ◌≤◌, ◌<◌, ◌≡◌, ◌≢◌, Bool, true, ◌||◌}
+use Rattle.std.specs.Prelude.{List, [], ◌∷◌, ◌++◌, length, take, drop, get_or, ltb}
 use Rattle.basics.specs.Choice.{pick}
 use Rattle.std.specs.Prelude.{Option, None, Some, Result, Ok, Err}
 use Rattle.scalars.specs.Characters.{is_scalar}
@@ -56,7 +58,8 @@ LineAnswered line = Exactly utf8 Says line
 
 -- ---- words
 
--- a place on a line at which a word may begin or end: whitespace is there or just before it, and 32, a blank, stands for what is beyond the line
+-- a place on a line at which a word may begin or end: whitespace is there or just before it, and 32, a blank, stands
+-- for what is beyond the line
 abbrev pub is_border : List ℕ → ℕ → Bool
 is_border line at = is_blank (get_or line at 32) || is_blank (get_or (32 ∷ line) at 32)
 
@@ -74,8 +77,8 @@ abbrev pub SaysPlain : Option ℕ → List ℕ → Type 0
 SaysPlain (Some c) w = IsForm c w
 SaysPlain None w = (c : ℕ) → IsForm c w → ⊥
 
--- what is claimed of a border of a line that is UTF-8: the rest of the line is UTF-8, and so is the next word, which, if it is plain,
--- is a character exactly if it is the form of that character
+-- what is claimed of a border of a line that is UTF-8: the rest of the line is UTF-8, and so is the next word, which,
+-- if it is plain, is a character exactly if it is the form of that character
 pub record GoodWord (line : List ℕ) (at : ℕ) : Type 0 where
   pub rest : IsUtf8 (drop at line)
   pub word : IsUtf8 (bytes_of line (word_at line at))

@@ -1,5 +1,5 @@
--- An operand is the next word, or begins where it begins. None is number 6, at the line's end; a bad one is 7 or 8, at its
--- first byte.
+-- An operand is the next word, or begins where it begins. None is number 6, at the line's end; a bad one is 7 or 8, at
+-- its first byte.
 use Rattle.std.specs.Prelude.{ℕ, ◌-◌, List, length, Option, Result, Ok, Err, ok_or}
 use Rattle.basics.specs.Choice.{pick, if_some, if_ok}
 use Rattle.basics.specs.declared.Refusal.TheVariants.{MissingOperand, BadCharacter, BadDots}

@@ -125,6 +125,7 @@ fn bits_of(line: &[u8]) -> u8
 }
 
 // Whether all of `line` is UTF-8; if not, where the first bad sequence begins.
+#[tactic(auto, using(crate::proofs::Utf8::checked), unfolding(crate::specs::Utf8::utf8_from))]
 pub fn check_utf8(line: &[u8]) -> Result<(), BadSequence>
     ensures value { result ≡ utf8 line.now }
     ensures bad_within { BadWithin result (length line.now) }
