@@ -55,6 +55,8 @@ pub trimmed_empty : (line : List ℕ) → length line < 1 → Trimmed line (leng
 trimmed_empty [] h = record { is = cr_empty [] refl; within = omega arith }
 trimmed_empty (b ∷ bs) h = absurd (omega arith)
 
+pub ruleset trimmed_cases = (trimmed_last, trimmed_none, trimmed_empty)
+
 -- n bytes stand before the CR, m of them before the place
 pub column_at : (line : List ℕ) (n m left : ℕ) → Trimmed line n → m ≡ n - left → m + 1 ≡ column_of (without_cr line) left
 column_at line n m left t h = rw (← t.is, length-take-le n line t.within, h)

@@ -5,7 +5,8 @@ use mathlib.Core.Bool.{Bool, ◌||◌}
 use mathlib.Core.List.{List}
 use lib.ListN.{length, get_or}
 use lib.Dec.{eqb}
-use borrow.Author.Tests.{le-ltb}
+use borrow.Author.Tests.{lt-ltb, le-ltb}
+use Rattle.basics.proofs.Tests.{chosen_first, chosen_other}
 use Rattle.std.specs.Prelude.{Result, Ok, Err}
 use Rattle.utf8.specs.Utf8.{utf8}
 use Rattle.utf8.specs.declared.BadSequence.{BadSequence}
@@ -25,6 +26,8 @@ module _ (line : List ℕ) {v : Result Unit BadSequence} {r : Result Opening Lin
   pub opened : {k : Result Unit BadSequence} → length line ≤ line_limit → v ≡ k → r ≡ valid_opening line k → r ≡ opening_of line
   unfolding opening_of
   opened short q h = rw (le-ltb _ _ short, ← e, q) h
+
+pub ruleset opening_cases = (opened, chosen_first, chosen_other, lt-ltb, le-ltb)
 
 -- o is what a call answered of a line's opening
 module _ {A : Type 0} (o x : Result Opening LineFault) (skipped read v : Result A LineFault) (e : o ≡ x) where

@@ -73,7 +73,7 @@ pub fn line_end(text: &[u8], at: usize) -> usize
 }
 
 // How many bytes of a line stand before its one CR.
-#[tactic(auto, using(crate::proofs::Lines::trimmed_last, crate::proofs::Lines::trimmed_none, crate::proofs::Lines::trimmed_empty))]
+#[tactic(auto, using(crate::proofs::Lines::trimmed_cases))]
 pub fn trimmed(line: &[u8]) -> usize
     ensures { Trimmed line.now result }
 {
@@ -105,13 +105,14 @@ pub fn next_word(line: &[u8], at: usize) -> Word
     ensures { NextWord line.now at result }
 {
     let rest = &line[at..];
-    let start = at
-        + rest
-            .iter()
-            .position(|b| !is_blank(*b))
-            .unwrap_or(rest.len());
+    let before = rest
+        .iter()
+        .position(|b| !is_blank(*b))
+        .unwrap_or(rest.len());
+    let start = at + before;
     let word = &line[start..];
-    let end = start + word.iter().position(|b| is_blank(*b)).unwrap_or(word.len());
+    let count = word.iter().position(|b| is_blank(*b)).unwrap_or(word.len());
+    let end = start + count;
     Word { start, end }
 }
 
@@ -134,7 +135,7 @@ pub fn is_over(line: &[u8], at: usize) -> bool
 }
 
 // What a line, without its end, is before its words are read.
-#[tactic(auto, using(crate::proofs::Openings::opened, basics::proofs::Tests::chosen, basics::proofs::Tests::tests), unfolding(crate::specs::Texts::opening_of))]
+#[tactic(auto, using(crate::proofs::Openings::opening_cases), unfolding(crate::specs::Texts::opening_of))]
 pub fn open_line(line: &[u8]) -> Result<Opening, LineFault>
     ensures { result ≡ opening_of line.now }
 {

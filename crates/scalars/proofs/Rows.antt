@@ -1,35 +1,29 @@
--- What a scan through rows of three numbers goes by.
-use Prim.Native.Nat.{ℕ, suc, ◌+◌, ◌-◌, ◌*◌, ◌/◌, ◌≤◌, ◌<◌}
-use mathlib.Core.Path.{◌≡◌, refl, sym, ◌∙◌}
-use mathlib.Core.List.{List, [], ◌∷◌}
-use native.Mathlib.Nat.{add-zero}
-use native.Mathlib.Omega.{arith}
-use lib.Dec.{ltb}
-use lib.ListN.{length, get_or, drop, length-drop}
-use lib.Seq.{get_or-drop, drop-drop}
-use borrow.Author.Tests.{lt-ltb, le-ltb}
-use Rattle.basics.specs.Choice.{pick}
-use Rattle.basics.specs.declared.Maybe.{Maybe}
-use Rattle.basics.specs.declared.Maybe.TheVariants.{Nothing, Character}
-use Rattle.scalars.specs.Characters.{between, stands_for}
+-- The loops over rows, which have come to row i: the row decides, or those behind it do.
+use Rattle.std.proofs.Common.{◌≡◌, ℕ, ◌+◌, ◌<◌, ◌≤◌, Bool, List, [], ◌∷◌, Option, None, Some, MatchOption, IsSomeAnd, length, get_or, drop, find, option_map, add-one, drop-cons, drop_of_length-le, ap, sym, ◌∙◌}
+use Rattle.basics.specs.Choice.{pick, if_some}
+use Rattle.basics.proofs.Tests.{by_cases}
 
--- the first row decides, where there is a whole one
-first_row : (l : List ℕ) (c : ℕ) → stands_for l c ≡ pick (ltb (length l) 3) Nothing (pick (between (get_or l 0 0) (get_or l 1 0) c) (Character (get_or l 2 0)) (stands_for (drop 3 l) c))
-unfolding stands_for
-first_row [] c = refl
-first_row (a ∷ []) c = refl
-first_row (a ∷ b ∷ []) c = refl
-first_row (a ∷ b ∷ d ∷ l) c = rw (le-ltb (suc (suc (suc (length l)))) 3 (omega arith))
+-- f is taken of the rows from i on, and x is what the loop is to answer
+module _ {X A : Type 0} (f : List X → A) (l : List X) (i : ℕ) (d : X) {x v : A} (inv : f (drop i l) ≡ x) where
+  pub next_row : i < length l → v ≡ f (get_or l i d ∷ drop (i + 1) l) → v ≡ x
+  next_row h e = e ∙ ap f (rw (drop-cons l i d, add-one i)) ∙ inv
 
--- x is what the loop is to answer
-module _ (x : Maybe) (rows : List ℕ) (i c : ℕ) (inv : stands_for (drop (3 * i) rows) c ≡ x) where
-  pub next_row : {v : Maybe} → i < length rows / 3 → v ≡ pick (between (get_or rows (3 * i) 0) (get_or rows (3 * i + 1) 0) c) (Character (get_or rows (3 * i + 2) 0)) (stands_for (drop (3 * (i + 1)) rows) c) → v ≡ x
-  next_row h e =
-      let next : 3 * (i + 1) ≡ 3 * i + 3 = omega arith in
-      let whole : 3 ≤ length rows - 3 * i = omega arith in
-      e ∙ rw next (sym (simp (length-drop, le-ltb _ _ whole, get_or-drop, drop-drop, add-zero) at (first_row (drop (3 * i) rows) c))) ∙ inv
+  pub rows_over : length l ≤ i → v ≡ f [] → v ≡ x
+  rows_over h e = e ∙ ap f (rw (drop_of_length-le l h)) ∙ inv
 
-  pub rows_over : length rows / 3 ≤ i → Nothing ≡ x
-  rows_over h =
-      let cut : length rows - 3 * i < 3 = omega arith in
-      sym (simp (length-drop, lt-ltb _ _ cut) at (first_row (drop (3 * i) rows) c)) ∙ inv
+-- f is taken of rows, by the first that passes: hit reads that row, and miss stands where none passes
+module _ {X Z : Type 0} (f : List X → Z) (test : X → Bool) (hit : X → Z) (miss : Z) (none : f [] ≡ miss) (step : (x : X) (l : List X) → f (x ∷ l) ≡ pick (test x) (hit x) (f l)) where
+  by_first : (rows : List X) → f rows ≡ if_some (find test rows) miss hit
+  by_first [] = none
+  by_first (x ∷ rows) = by_cases (test x) (λ e. rw (step x rows, e)) (λ e. rw (step x rows, e) (by_first rows))
+
+  -- r is the row that a call found, by reference, and z what another call made of it
+  pub read_first : {A : Type 0} (look : A → X) (P : A → Type 0) (rows : List X) (r : Option A) (z : Z) → option_map look r ≡ find test rows → MatchOption r (z ≡ miss) P
+      → ((x : A) → P x → z ≡ hit (look x)) → z ≡ f rows
+  read_first look P rows None z e h reads = h ∙ ap (λ (m : Option X). if_some m miss hit) e ∙ sym (by_first rows)
+  read_first look P rows (Some x) z e h reads = reads x h ∙ ap (λ (m : Option X). if_some m miss hit) e ∙ sym (by_first rows)
+
+-- what is made of a value that is there
+pub some_of : {Y : Type 0} (P : Y → Type 0) (y : Y) (r : Option Y) → IsSomeAnd r P → ((z : Y) → P z → z ≡ y) → r ≡ Some y
+some_of P y None h reads = absurd h
+some_of P y (Some z) h reads = ap Some (reads z h)

@@ -1,18 +1,12 @@
-use borrow.Author.Rules.{rules}
-use mathlib.Core.Path.{refl}
-use Rattle.basics.proofs.Tests.{tests}
-use Rattle.scalars.proofs.Rows.{next_row, rows_over}
+use Rattle.std.proofs.Common.{ℕ, List, Some, rules, tests, refl}
+use Rattle.std.proofs.lemmas.Iterator.{YieldsList-from_slice}
+use Rattle.std.proofs.lemmas.Iterator.Search.{find_from_yields_List}
+use Rattle.scalars.specs.Characters.{between, stands_for}
+use Rattle.scalars.proofs.Rows.{read_first, some_of}
 use Rattle.scalars.proofs.stands_for.Goals as goal
-use Rattle.scalars.proofs.stands_for.Goals.{then-rows-i+else-c-rows, else-rows-i}
-
-pub loop-i-init : goal.loop-i-init
-loop-i-init c = (search rules, refl, refl)
-
-pub returns-then-c-rows : goal.returns-then-c-rows
-returns-then-c-rows c = search (next_row, tests)
-
-pub loop-i-preserved : goal.loop-i-preserved
-loop-i-preserved c = (search rules, refl, elim c.if-rows-i.branch [ then-rows-i+else-c-rows w ↦ search (next_row, tests) | else-rows-i w ↦ search (next_row, tests) ])
 
 pub returns : goal.returns
-returns c = search rows_over
+unfolding stands_for
+returns c =
+    let found = find_from_yields_List (λ row. between row.0 row.1 c.args.c) _ _ c.find.result c.find.ensures.ran (YieldsList-from_slice c.args.rows.now cc) (λ x b q k. search (rules, tests)) in
+    read_first (λ (l : List (ℕ × ℕ × ℕ)). stands_for l c.args.c) (λ row. between row.0 row.1 c.args.c) (λ row. Some row.2) _ refl (λ x l. refl) (λ y. y.now) _ c.args.rows.now c.find.result c.map.result found c.map.ensures.cases (λ x h. some_of _ _ _ h (λ y q. search rules))
