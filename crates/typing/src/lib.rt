@@ -19,8 +19,9 @@ pub struct Entries {
 }
 
 // The entry table: each cell at first typing nothing, then from the `char` definitions in order, the earliest kept.
+#[tactic(auto, using(crate::proofs::Calls::scanned))]
 fn fill_entries(pairs: Pairs<'_>) -> [Option<u32>; 256]
-    ensures { result ≡ entries_of (definitions pairs.count pairs.words.now) }
+    ensures { result ≡ entries_of (definitions pairs.entry.count pairs.entry.words.now) }
 {
     let mut entries = [None; 256];
     for i in 0..pairs.count {
