@@ -34,8 +34,8 @@ unfoldable pub listing : List Definition → List ℕ
 listing [] = []
 listing (d ∷ ds) = line_of d ++ (10 ∷ listing ds)
 
--- the call, for a buffer of so many bytes: the text that it writes, or a refusal; 2 or 15 of the table, then 2 where the
--- text is longer
+-- the call, for a buffer of so many bytes: the text that it writes, or a refusal; 2 or 15 of the table, then 2 where
+-- the text is longer
 unfoldable pub listing_plan : List ℕ → ℕ → Reply (List ℕ)
 listing_plan ws room =
     and_then (lent_table ws) (λ ds. pick (ltb room (length (listing ds))) (refused 2 0) (answered (listing ds)))

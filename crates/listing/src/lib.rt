@@ -27,7 +27,8 @@ fn directive_word(m: Meaning) -> &'static [u8]
     }
 }
 
-// Puts a blank and a character.
+// Puts a blank and a character. The buffer and the place are passed on by themselves: a struct that holds a lent buffer
+// has to promise in each contract that it still holds the same one.
 fn put_character(buffer: &mut [u8], at: usize, c: u32) -> usize
     requires { at + length (32 ∷ escaped c) ≤ length buffer.old }
     ensures { Put buffer.old at (32 ∷ escaped c) result buffer.new }

@@ -10,8 +10,8 @@ use basics::Refused;
 use definitions::Meaning;
 use pairs::Pairs;
 
-// What the typing call hands back: its answer, and what each of the 256 cells types. A refused call promises that no cell
-// types anything, so the entries stand beside the answer.
+// What the typing call hands back: its answer, and what each of the 256 cells types. A refused call promises that no
+// cell types anything, so the entries stand beside the answer.
 #[derive(Clone, Copy)]
 pub struct Entries {
     pub answer: Result<(), Refused>,
