@@ -1,7 +1,7 @@
 // From a typed cell to its character.
 #![tactic(auto)]
 
-ghost use Rattle.std.specs.Prelude.{◌≡◌, replicate, None};
+ghost use Rattle.std.specs.Prelude.{◌≡◌};
 ghost use Rattle.basics.specs.Refusals.{reply_of};
 ghost use Rattle.pairs.specs.Words.{definitions};
 ghost use Rattle.typing.specs.Typing.{entries_of, typing_reply, typing_entries};
