@@ -1,32 +1,27 @@
 -- The compile call: the loop over the lines of a text, with the words that they fill and the blocks that they open, and what the call answers and writes.
 use Prim.Native.Nat.{ℕ, ◌+◌, ◌-◌, ◌≤◌, ◌<◌}
 use mathlib.Core.Path.{◌≡◌, refl, sym, ◌∙◌}
-use mathlib.Core.Bool.{Bool, true, false}
-use mathlib.Core.List.{List, ◌∷◌, ◌++◌}
+use mathlib.Core.Bool.{true, false}
+use mathlib.Core.List.{List, [], ◌∷◌, ◌++◌}
 use native.Mathlib.Omega.{arith}
 use lib.ListN.{length, take, drop, replicate}
 use borrow.Author.Tests.{lt-ltb, le-ltb}
-use Rattle.basics.proofs.Tests.{told}
-use Rattle.basics.specs.declared.Refusal.{Refusal}
+use Rattle.std.specs.Prelude.{Option, None, Some, Result, Ok, Err}
 use Rattle.basics.specs.declared.Refusal.TheVariants.{ShortSlice, TextTooLong, UnclosedBlock, UnknownCharset}
 use Rattle.scalars.specs.Characters.{is_charset}
 use Rattle.lines.specs.Lines.{without_cr}
-use Rattle.lines.specs.Texts.{text_limit, column_of, Step, accepted, run_text, compiled_reply, compiled_column}
-use Rattle.lines.specs.Internal.{LineEnd, leaves}
-use Rattle.lines.specs.declared.Compiled.{Compiled}
-use Rattle.lines.specs.declared.Compiled.TheVariants.{Accepted, Refused}
-use Rattle.lines.specs.declared.Stopped.TheVariants.{No, By}
+use Rattle.lines.specs.Texts.{text_limit, Step, accepted, run_text, compiled_reply, compiled_column, rejection_of}
+use Rattle.lines.specs.Internal.{LineEnd}
+use Rattle.lines.specs.declared.LineFault.{LineFault}
+use Rattle.lines.specs.declared.Rejection.{Rejection}
 use Rattle.lines.proofs.Texts.{Reached, lines_read, line_refused, line_read}
-use Rattle.blocks.specs.Internal.{stack, no_blocks, starts_of}
-use Rattle.blocks.specs.declared.Blocks.{Blocks}
-use Rattle.blocks.proofs.Stacks.{stack_none}
+use Rattle.blocks.specs.Internal.{stack, starts_of, first_of}
 use Rattle.pairs.specs.Words.{pair_words, table_words, charset_of, definitions}
 use Rattle.table.specs.Internal.{Written}
 use Rattle.table.proofs.Written.{empty_charset, empty_beyond, same_charset, same_beyond, written_length}
 use Rattle.compiler.specs.Compile.{SoFar, begun, step, closing, compiled, compile_reply, compile_column, compile_words}
-use Rattle.compiler.specs.Internal.{standing, first_state, Ready, Leaves, Settled}
+use Rattle.compiler.specs.Internal.{standing, first_state, Leaves, Settled}
 use Rattle.compiler.specs.declared.State.{State}
-use Rattle.compiler.specs.declared.Stepped.{Stepped}
 use Rattle.compiler.proofs.Effects.{step_counts}
 
 -- ---- the lines
@@ -34,19 +29,16 @@ use Rattle.compiler.proofs.Effects.{step_counts}
 -- where the loop has come to: what the text still gives, after the words and the state of the lines before. It began with empty
 pub record Come (text empty ws : List ℕ) (s : State) (at : ℕ) : Type 0 where
   pub reached : Reached (step (charset_of empty)) text (run_text (step (charset_of empty)) begun text) at (s.lines + 1) (standing ws s)
-  pub ready : Ready ws s
+  pub written : Written ws s.count
   pub beyond : drop pair_words ws ≡ drop pair_words empty
   pub same : length ws ≡ length empty
-
-pub state_first : {blocks : Blocks} → blocks ≡ no_blocks → record { count = 0; lines = 0; blocks = blocks } ≡ first_state
-state_first q = rw q
 
 pub come_first : (text empty : List ℕ) (s : State) → Written empty 0 → length text ≤ text_limit → s ≡ first_state → Come text empty empty s 0
 unfolding definitions run_text stack
 come_first text empty s w short q =
     rw q (record {
       reached = record { within = omega arith; count = omega arith; left = rw (le-ltb _ _ short) };
-      ready = record { written = w; depth = omega arith };
+      written = w;
       beyond = refl;
       same = refl;
     })
@@ -62,83 +54,93 @@ module _ (text empty ws : List ℕ) (s : State) (at : ℕ) (here : Come text emp
   beyond_stays : drop table_words ws ≡ drop table_words empty
   beyond_stays = same_beyond ws empty here.beyond
 
-  pub come_end : {r : Compiled} {last : List ℕ} → length text ≤ at → Settled (closing (accepted (standing ws s))) ws r last → Settled (compiled (charset_of empty) text) empty r last
+  pub come_end : {r : Result ℕ Rejection} {last : List ℕ} → length text ≤ at → Settled (closing (accepted (standing ws s))) ws r last → Settled (compiled (charset_of empty) text) empty r last
   unfolding compiled
   come_end h t =
       let gives = lines_read steps text (run_text steps begun text) at (s.lines + 1) (standing ws s) here.reached h in
       record { answer = t.answer ∙ rw gives; column = t.column ∙ rw gives; words = t.words ∙ rw (gives, set_stays, beyond_stays) }
 
-  -- the next line ends at e, and leaves r and new
-  module _ (e : ℕ) (r : Stepped) (new : List ℕ) (some : at < length text) (ends : LineEnd text at e) (left : Leaves ws s (without_cr (take (e - at) (drop at text))) r new) where
-    does : leaves r.stopped (standing new r.state) ≡ steps (standing ws s) (without_cr (take (e - at) (drop at text)))
-    does = rw set_stays at left.does
+  -- the next line ends at e, and leaves new
+  module _ (e : ℕ) (new : List ℕ) (some : at < length text) (ends : LineEnd text at e) where
+    abbrev line : List ℕ
+    line = take (e - at) (drop at text)
 
-    pub come_on : r.stopped ≡ No → length new ≡ length ws → Come text empty new r.state (e + 1)
-    come_on q same =
-        let counts = step_counts (charset_of empty) (standing ws s) (without_cr (take (e - at) (drop at text))) (sym (rw q at does)) in
+    pub come_on : (t : State) → Leaves ws s (without_cr line) (Ok t) new → length new ≡ length ws → Come text empty new t (e + 1)
+    come_on t left same =
+        let does = rw set_stays at left.does in
+        let counts = step_counts (charset_of empty) (standing ws s) (without_cr line) (sym does) in
         record {
-          reached = rw (← counts) at (line_read steps text (run_text steps begun text) at (s.lines + 1) (standing ws s) here.reached e r.stopped (standing new r.state) some ends does q);
-          ready = left.ready;
+          reached = rw (← counts) at (line_read steps text (run_text steps begun text) at (s.lines + 1) (standing ws s) here.reached e (Ok (standing new t)) some ends does (standing new t) refl);
+          written = left.written;
           beyond = left.beyond ∙ here.beyond;
           same = same ∙ here.same;
         }
 
     -- the words are zeroed
-    pub come_refused : {refusal : Refusal} {bytes column : ℕ} {last : List ℕ} → r.stopped ≡ By refusal bytes → column ≡ column_of (without_cr (take (e - at) (drop at text))) bytes
-        → last ≡ replicate table_words 0 ++ drop table_words new → Settled (compiled (charset_of empty) text) empty (Refused refusal (s.lines + 1) column) last
+    pub come_refused : (fault : LineFault) → Leaves ws s (without_cr line) (Err fault) new → {rejection : Rejection} {last : List ℕ} → rejection ≡ rejection_of fault line (s.lines + 1)
+        → last ≡ replicate table_words 0 ++ drop table_words new → Settled (compiled (charset_of empty) text) empty (Err rejection) last
     unfolding compiled
-    come_refused {refusal} {bytes} q c z =
-        let gives = line_refused steps text (run_text steps begun text) at (s.lines + 1) (standing ws s) here.reached e r.stopped (standing new r.state) some ends does refusal bytes q c in
-        record { answer = rw gives; column = rw gives; words = z ∙ rw (gives, same_beyond new ws left.beyond, beyond_stays) }
+    come_refused fault left c z =
+        let does = rw set_stays at left.does in
+        let gives = line_refused steps text (run_text steps begun text) at (s.lines + 1) (standing ws s) here.reached e (Err fault) some ends does fault refl in
+        rw c (record { answer = rw gives; column = rw gives; words = z ∙ rw (gives, same_beyond new ws left.beyond, beyond_stays) })
 
 -- ---- the end of the text
 
-module _ (ws : List ℕ) (s : State) where
-  pub end_closed : Ready ws s → s.blocks.depth ≡ 0 → Settled (closing (accepted (standing ws s))) ws (Accepted s.count) ws
-  end_closed w e =
-      let none = stack_none 0 s.blocks.starts s.blocks.depth e in
-      record { answer = rw (none, written_length ws s.count w.written); column = rw none; words = rw none w.written.image }
+-- o is what a call answered of the line that opened the innermost block
+module _ (ws : List ℕ) (s : State) (o : Option ℕ) (first : o ≡ first_of (starts_of s.blocks)) where
+  pub end_closed : Written ws s.count → o ≡ None → Settled (closing (accepted (standing ws s))) ws (Ok s.count) ws
+  end_closed w e = go (starts_of s.blocks) refl (sym first ∙ e)
+    where
+      go : (starts : List ℕ) → starts_of s.blocks ≡ starts → first_of starts ≡ None → Settled (closing (accepted (standing ws s))) ws (Ok s.count) ws
+      go [] q h = record { answer = rw (q, written_length ws s.count w); column = rw q; words = rw q w.image }
+      go (line ∷ outer) q h = absurd (let z : ◌≡◌ {A = ℕ} 0 1 = cc in omega arith)
 
   -- the words are zeroed
-  pub end_open : (line : ℕ) (outer : List ℕ) {last : List ℕ} → starts_of s.blocks ≡ line ∷ outer → last ≡ replicate table_words 0 ++ drop table_words ws
-      → Settled (closing (accepted (standing ws s))) ws (Refused UnclosedBlock line 0) last
-  end_open line outer e z = record { answer = rw e; column = rw e; words = z ∙ rw e }
+  pub end_open : (place : ℕ) {last : List ℕ} → o ≡ Some place → last ≡ replicate table_words 0 ++ drop table_words ws
+      → Settled (closing (accepted (standing ws s))) ws (Err (record { refusal = UnclosedBlock; line = place; column = 0 })) last
+  end_open place {last} e z = go (starts_of s.blocks) refl (sym first ∙ e)
+    where
+      go : (starts : List ℕ) → starts_of s.blocks ≡ starts → first_of starts ≡ Some place
+          → Settled (closing (accepted (standing ws s))) ws (Err (record { refusal = UnclosedBlock; line = place; column = 0 })) last
+      go [] q h = absurd (let z : ◌≡◌ {A = ℕ} 0 1 = cc in omega arith)
+      go (opened ∷ outer) q h = let same : opened ≡ place = cc in record { answer = rw (q, same); column = rw q; words = z ∙ rw q }
 
 -- ---- the call
 
 -- what the call is to ensure: its answer, the column, and the words that it leaves
-abbrev pub Ensured : ℕ → List ℕ → List ℕ → Compiled → List ℕ → Type 0
-Ensured charset text entry r ws =
-    (compiled_reply r ≡ compile_reply charset text (length entry)) × ((compiled_column r ≡ compile_column charset text (length entry)) × (ws ≡ compile_words charset text entry))
+pub record Ensured (charset : ℕ) (text entry : List ℕ) (r : Result ℕ Rejection) (ws : List ℕ) : Type 0 where
+  pub answer : compiled_reply r ≡ compile_reply charset text (length entry)
+  pub column : compiled_column r ≡ compile_column charset text (length entry)
+  pub words : ws ≡ compile_words charset text entry
 
--- k is what a call answered of the set
-pub no_set : (charset : ℕ) (text entry : List ℕ) (k : Bool) → k ≡ is_charset charset → k ≡ false → Ensured charset text entry (Refused UnknownCharset 0 0) entry
-unfolding compile_reply compile_column compile_words
-no_set charset text entry k is q = rw (told is q) (refl, (refl, refl))
-
-module _ (charset : ℕ) (text entry : List ℕ) (known : is_charset charset ≡ true) where
-  pub too_few : length entry < table_words → Ensured charset text entry (Refused ShortSlice 0 0) entry
+module _ (charset : ℕ) (text entry : List ℕ) where
+  pub no_set : false ≡ is_charset charset → Ensured charset text entry (Err (record { refusal = UnknownCharset; line = 0; column = 0 })) entry
   unfolding compile_reply compile_column compile_words
-  too_few h = rw (known, lt-ltb _ _ h) (refl, (refl, refl))
+  no_set unknown = record { answer = rw (← unknown); column = rw (← unknown); words = rw (← unknown) }
 
-  module _ (enough : table_words ≤ length entry) where
-    pub too_long : text_limit < length text → Ensured charset text entry (Refused TextTooLong 0 0) entry
-    unfolding compile_reply compile_column compile_words compiled run_text
-    too_long h = rw (known, le-ltb _ _ enough, lt-ltb _ _ h) (refl, (refl, refl))
+  module _ (known : true ≡ is_charset charset) where
+    pub too_few : length entry < table_words → Ensured charset text entry (Err (record { refusal = ShortSlice; line = 0; column = 0 })) entry
+    unfolding compile_reply compile_column compile_words
+    too_few h = record { answer = rw (← known, lt-ltb _ _ h); column = rw (← known, lt-ltb _ _ h); words = rw (← known, lt-ltb _ _ h) }
 
-    -- the lines are read into empty words for the set
-    module _ (empty : List ℕ) (q : empty ≡ replicate pair_words 0 ++ charset ∷ 0 ∷ drop table_words entry) (r : Compiled) (ws : List ℕ) (read : Settled (compiled (charset_of empty) text) empty r ws) where
-      set : charset_of empty ≡ charset
-      set = empty_charset (drop table_words entry) empty charset q
+    module _ (enough : table_words ≤ length entry) where
+      pub too_long : text_limit < length text → Ensured charset text entry (Err (record { refusal = TextTooLong; line = 0; column = 0 })) entry
+      unfolding compile_reply compile_column compile_words compiled run_text
+      too_long h = record {
+        answer = rw (← known, le-ltb _ _ enough, lt-ltb _ _ h);
+        column = rw (← known, le-ltb _ _ enough, lt-ltb _ _ h);
+        words = rw (← known, le-ltb _ _ enough, lt-ltb _ _ h);
+      }
 
-      pub read_answer : compiled_reply r ≡ compile_reply charset text (length entry)
-      unfolding compile_reply
-      read_answer = read.answer ∙ rw (set, known, le-ltb _ _ enough)
-
-      pub read_column : compiled_column r ≡ compile_column charset text (length entry)
-      unfolding compile_column
-      read_column = read.column ∙ rw (set, known, le-ltb _ _ enough)
-
-      pub read_words : length text ≤ text_limit → ws ≡ compile_words charset text entry
-      unfolding compile_words
-      read_words short = read.words ∙ rw (set, empty_beyond (drop table_words entry) empty charset q, known, le-ltb _ _ enough, le-ltb _ _ short)
+      -- the lines are read into empty words for the set
+      pub all_read : (empty : List ℕ) → empty ≡ replicate pair_words 0 ++ charset ∷ 0 ∷ drop table_words entry → length text ≤ text_limit
+          → {r : Result ℕ Rejection} {ws : List ℕ} → Settled (compiled (charset_of empty) text) empty r ws → Ensured charset text entry r ws
+      unfolding compile_reply compile_column compile_words
+      all_read empty q short read =
+          let set = empty_charset (drop table_words entry) empty charset q in
+          record {
+            answer = read.answer ∙ rw (set, ← known, le-ltb _ _ enough);
+            column = read.column ∙ rw (set, ← known, le-ltb _ _ enough);
+            words = read.words ∙ rw (set, empty_beyond (drop table_words entry) empty charset q, ← known, le-ltb _ _ enough, le-ltb _ _ short);
+          }

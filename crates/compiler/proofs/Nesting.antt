@@ -4,6 +4,8 @@ use mathlib.Core.Path.{◌≡◌, refl}
 use mathlib.Core.Bool.{Bool, true, false}
 use mathlib.Core.List.{List, [], ◌∷◌}
 use native.Mathlib.Omega.{arith}
+use Rattle.std.specs.Prelude.{Result, Ok, Err}
+use Rattle.lines.specs.declared.LineFault.{LineFault}
 use Rattle.basics.proofs.Tests.{same_twice}
 use Rattle.lines.specs.Texts.{next, accepted, run_lines}
 use Rattle.lines.proofs.Texts.{run_keeps}
@@ -12,7 +14,7 @@ use Rattle.blocks.specs.declared.OpenBlock.{OpenBlock}
 use Rattle.blocks.specs.declared.BlockLine.{BlockLine}
 use Rattle.blocks.specs.declared.BlockLine.TheVariants.{Open, Else, EndIf}
 use Rattle.reader.specs.declared.Reading.{Reading}
-use Rattle.reader.specs.declared.Reading.TheVariants.{Fault, NoEffect, Define, Block}
+use Rattle.reader.specs.declared.Reading.TheVariants.{NoEffect, Define, Block}
 use Rattle.compiler.specs.Compile.{line_effect, SoFar, begun, with_effect, step}
 use Rattle.compiler.proofs.Effects.{effect_no_half}
 
@@ -33,11 +35,11 @@ step_nested : (charset : ℕ) (s : SoFar) (line : List ℕ) (s' : SoFar) → ste
 unfolding step
 step_nested charset s line s' e h = go (line_effect charset s.definitions s.blocks line) refl e
   where
-    go : (r : Reading) → line_effect charset s.definitions s.blocks line ≡ r → with_effect s r ≡ next s' → Nested s'.blocks
-    go (Fault refusal left) p e = absurd (let z : ◌≡◌ {A = ℕ} 0 1 = cc in omega arith)
-    go NoEffect p e = let same : s.blocks ≡ s'.blocks = cc in rw same at h
-    go (Define d left) p e = let same : s.blocks ≡ s'.blocks = cc in rw same at h
-    go (Block read) p e =
+    go : (r : Result Reading LineFault) → line_effect charset s.definitions s.blocks line ≡ r → with_effect s r ≡ next s' → Nested s'.blocks
+    go (Err fault) p e = absurd (let z : ◌≡◌ {A = ℕ} 0 1 = cc in omega arith)
+    go (Ok NoEffect) p e = let same : s.blocks ≡ s'.blocks = cc in rw same at h
+    go (Ok (Define d left)) p e = let same : s.blocks ≡ s'.blocks = cc in rw same at h
+    go (Ok (Block read)) p e =
         let same : blocks_after read s.blocks ≡ s'.blocks = cc in
         rw same at
         (after_nested read s.blocks (λ first second q untaken. effect_no_half charset s.definitions s.blocks line untaken (rw q at p)) h)

@@ -9,6 +9,8 @@ use lib.Dec.{ltb}
 use lib.ListN.{length, drop}
 use lib.Seq.{append_snoc}
 use borrow.Author.Tests.{lt-ltb, ltb-false, le-ltb}
+use Rattle.std.specs.Prelude.{Result, Ok, Err}
+use Rattle.lines.specs.declared.LineFault.{LineFault}
 use Rattle.basics.specs.Choice.{pick}
 use Rattle.basics.specs.Refusals.{answered, refused}
 use Rattle.basics.specs.declared.Refusal.TheVariants.{TextTooLong, LineTooLong}
@@ -26,7 +28,7 @@ use Rattle.table.proofs.Readback.{AllInRange}
 use Rattle.compiler.specs.Compile.{line_effect, SoFar, begun, with_effect, step, closed_by, closing, compiled, and_after, effects_within, effects, compiled_count, compile_reply, compile_column, compile_words}
 use Rattle.reader.specs.Reader.{read_line}
 use Rattle.reader.specs.declared.Reading.{Reading}
-use Rattle.reader.specs.declared.Reading.TheVariants.{Fault, NoEffect, Define, Block}
+use Rattle.reader.specs.declared.Reading.TheVariants.{NoEffect, Define, Block}
 use Rattle.compiler.proofs.Effects.{effect_in_range, effect_admitted}
 
 -- after the definitions ds those of rs take effect, and gs are all
@@ -42,12 +44,12 @@ run_took charset [] n s e = record { after = cc (append-nil s.definitions); admi
 run_took charset (l ∷ ls) n s {g} e = go (λ t. run_took charset ls (n + 1) t) (line_effect charset s.definitions s.blocks (without_cr l)) refl e
   where
     go : ((t : SoFar) → run_lines (step charset) ls (n + 1) t ≡ accepted g → Took t.definitions g.definitions (effects_within charset t.definitions t.blocks ls))
-        → (r : Reading) → line_effect charset s.definitions s.blocks (without_cr l) ≡ r → on_step (with_effect s r) (without_cr l) n (λ t. run_lines (step charset) ls (n + 1) t) ≡ accepted g
+        → (r : Result Reading LineFault) → line_effect charset s.definitions s.blocks (without_cr l) ≡ r → on_step (with_effect s r) (without_cr l) n (λ t. run_lines (step charset) ls (n + 1) t) ≡ accepted g
         → Took s.definitions g.definitions (and_after s.definitions s.blocks r (λ ds bs. effects_within charset ds bs ls))
-    go ih (Fault refusal left) p e = record { after = cc; admits = tt; fit = tt }
-    go ih NoEffect p e = ih _ e
-    go ih (Block read) p e = ih _ e
-    go ih (Define d left) p e =
+    go ih (Err fault) p e = record { after = cc; admits = tt; fit = tt }
+    go ih (Ok NoEffect) p e = ih _ e
+    go ih (Ok (Block read)) p e = ih _ e
+    go ih (Ok (Define d left)) p e =
         let rest = ih _ e in
         record {
           after = rw append_snoc at rest.after;
@@ -63,11 +65,11 @@ step_alike : (charset : ℕ) (s : SoFar) (line : List ℕ) (s' : SoFar) → step
 unfolding step
 step_alike charset s line s' e h = go (line_effect charset s.definitions s.blocks line) e
   where
-    go : (r : Reading) → with_effect s r ≡ next s' → Alike s'
-    go (Fault refusal left) e = cc
-    go NoEffect e = cc
-    go (Define d left) e = cc
-    go (Block read) e = cc (after_alike read (s.lines + 1) s.blocks s.starts h)
+    go : (r : Result Reading LineFault) → with_effect s r ≡ next s' → Alike s'
+    go (Err fault) e = cc
+    go (Ok NoEffect) e = cc
+    go (Ok (Define d left)) e = cc
+    go (Ok (Block read)) e = cc (after_alike read (s.lines + 1) s.blocks s.starts h)
 
 -- an accepted text is not too long, its lines are accepted, and no block is open behind them
 pub record AcceptedText (charset : ℕ) (text : List ℕ) (ds : List Definition) : Type 0 where

@@ -27,7 +27,7 @@ pub struct State {
 
 // What a line as read does: 22 and 11 to 13 refuse a definition that would take effect.
 fn effect_of(pairs: Pairs<'_>, reading: Reading) -> Result<Reading, LineFault>
-    ensures { result ≡ effect_of (definitions pairs.count pairs.words.now) reading }
+    ensures { result ≡ effect_of (definitions pairs.entry.count pairs.entry.words.now) reading }
 {
     if let Reading::Define(d, left) = reading {
         if let Err(refusal) = pairs::judge(&pairs, d) {
@@ -39,8 +39,9 @@ fn effect_of(pairs: Pairs<'_>, reading: Reading) -> Result<Reading, LineFault>
 
 // What a line, without its end, does: its first fault, nothing, the definition that takes effect, or what it does to the
 // open blocks.
+#[tactic(auto, unfolding(crate::specs::Compile::line_effect))]
 fn line_effect(pairs: Pairs<'_>, blocks: Blocks, line: &[u8]) -> Result<Reading, LineFault>
-    ensures { result ≡ line_effect (charset_of pairs.words.now) (definitions pairs.count pairs.words.now) (blocks_of blocks) line.now }
+    ensures { result ≡ line_effect (charset_of pairs.entry.words.now) (definitions pairs.entry.count pairs.entry.words.now) (blocks_of blocks) line.now }
 {
     let reading = reader::read_line(pairs, blocks.around(), line)?;
     effect_of(pairs, reading)

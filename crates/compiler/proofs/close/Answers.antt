@@ -1,8 +1,8 @@
 use Rattle.compiler.proofs.Call.{end_closed, end_open}
 use Rattle.compiler.proofs.close.Goals as goal
 
-pub returns-then-blocks-eq0 : goal.returns-then-blocks-eq0
-returns-then-blocks-eq0 c = search end_closed
+pub returns-in-None : goal.returns-in-None
+returns-in-None c = end_closed _ c.args.state _ c.innermost.ensures c.requires c.in-None.is
 
-pub returns : goal.returns
-returns c = search end_open
+pub returns-in-Some : goal.returns-in-Some
+returns-in-Some c = end_open _ c.args.state _ c.innermost.ensures _ c.in-Some.is c.clear.ensures

@@ -1,9 +1,8 @@
-use Prim.Native.Nat.{◌+◌, ◌-◌}
-use lib.ListN.{length}
+use Rattle.std.proofs.Common.{◌+◌, ◌-◌, length}
 use Rattle.compiler.proofs.Call.{Come}
 use Rattle.compiler.proofs.read_lines.Given as goal
 
--- what the text still gives from the words and the state, which are ready
+-- What the text still gives from the words and the state.
 abbrev pub invariant-loop-at : goal.invariant-loop-at
 invariant-loop-at l = Come l.text l.initial.words l.words l.state l.at
 
