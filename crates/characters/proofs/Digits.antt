@@ -5,6 +5,9 @@ use Rattle.std.specs.Char.{digit_value}
 use mathlib.Core.Bool.{and-false}
 use Rattle.basics.specs.Choice.{pick}
 use Rattle.basics.proofs.Tests.{below, by_cases, either}
+use Rattle.characters.specs.declared.Base.{Base}
+use Rattle.characters.specs.declared.Base.TheVariants.{Octal, Hexadecimal}
+use Rattle.characters.specs.Internal.{radix}
 use Rattle.characters.specs.Characters.{no_number, digit_of, with_digit, digits_from}
 
 lt_of_not : {a b : ℕ} → (a < b → ⊥) → b ≤ a
@@ -20,23 +23,28 @@ within m =
     (λ e. let h = leb-true m 0x10FFFF e in rw (e, lt-ltb m no_number (omega arith)))
     (λ e. let h = leb-false m 0x10FFFF e in rw (e, le-ltb m no_number (omega arith)))
 
-module _ (radix n b : ℕ) (small : b < 256) (most : radix ≤ 16) where
-  digit_here : digit_value b < radix → digit_of b ≡ digit_value b
-  digit_here low = hex_digit b small ∙ rw (lt-ltb (digit_value b) 16 (lt_of_lt_of_le low most))
+most : (base : Base) → radix base ≤ 16
+most Octal = omega arith
+most Hexadecimal = omega arith
 
-  too_high : (digit_value b < radix → ⊥) → radix ≤ digit_of b
-  too_high high = rw (hex_digit b small) (either (λ x. radix ≤ x) (ltb (digit_value b) 16) (lt_of_not high) most)
+module _ (base : Base) (n b : ℕ) (small : b < 256) where
+  digit_here : digit_value b < radix base → digit_of b ≡ digit_value b
+  digit_here low = hex_digit b small ∙ rw (lt-ltb (digit_value b) 16 (lt_of_lt_of_le low (most base)))
 
-  pub no_digit : (digit_value b < radix → ⊥) → with_digit radix n (digit_of b) ≡ no_number
+  too_high : (digit_value b < radix base → ⊥) → radix base ≤ digit_of b
+  too_high high = rw (hex_digit b small) (either (λ x. radix base ≤ x) (ltb (digit_value b) 16) (lt_of_not high) (most base))
+
+  pub no_digit : (digit_value b < radix base → ⊥) → with_digit (radix base) n (digit_of b) ≡ no_number
   unfolding with_digit
-  no_digit high = rw (le-ltb (digit_of b) radix (too_high high))
+  no_digit high = rw (le-ltb (digit_of b) (radix base) (too_high high))
 
-  pub digit_next : (d : ℕ) (r : Option ℕ) → digit_value b < radix → d ≡ digit_value b → r ≡ then_some (leb (n * radix + d) 0x10FFFF) (n * radix + d) → unwrap_or r no_number ≡ with_digit radix n (digit_of b)
+  pub digit_next : (d : ℕ) (r : Option ℕ) → digit_value b < radix base → d ≡ digit_value b → r ≡ then_some (leb (n * radix base + d) 0x10FFFF) (n * radix base + d)
+      → unwrap_or r no_number ≡ with_digit (radix base) n (digit_of b)
   unfolding with_digit
   digit_next d r low e q =
       let digit : digit_of b ≡ d = digit_here low ∙ sym e in
-      let less : d < radix = rw (← e) at low in
-      rw (q, digit, lt-ltb d radix less) (within (n * radix + d))
+      let less : d < radix base = rw (← e) at low in
+      rw (q, digit, lt-ltb d (radix base) less) (within (n * radix base + d))
 
 -- once there is no number, there is none from there on
 stays_none : (radix d : ℕ) → with_digit radix no_number d ≡ no_number
@@ -46,7 +54,7 @@ stays_none radix d =
     (λ e. let h = ltb-true d radix e in rw (le-ltb (no_number * radix + d) no_number (omega arith), and-false))
     (λ e. rw e)
 
-pub none_on : (radix : ℕ) (l : List ℕ) → digits_from radix l no_number ≡ no_number
+none_on : (radix : ℕ) (l : List ℕ) → digits_from radix l no_number ≡ no_number
 unfolding digits_from
 none_on radix [] = refl
 none_on radix (b ∷ l) = rw (stays_none radix (digit_of b)) (none_on radix l)

@@ -1,7 +1,8 @@
 // A word as a character or byte operand: what it spells, and the character or byte that it stands for.
 #![tactic(auto)]
 
-ghost use Rattle.std.specs.Prelude.{◌≡◌, ◌+◌, ◌*◌, ◌%◌, ◌≤◌, ◌<◌, IfSome, unwrap_or};
+ghost use Rattle.std.specs.Prelude.{◌≡◌, ◌+◌, ◌*◌, ◌%◌, ◌<◌, IfSome, unwrap_or, option_map};
+ghost use Rattle.characters.specs.Internal.{radix};
 ghost use Rattle.characters.specs.Characters.{no_number, digit_of, with_digit, digits_from, plain_of, short_of};
 ghost use Rattle.characters.specs.Characters.{radix_of, word_number, character_of, operand_of, is_unicode_escape};
 ghost use Rattle.characters.specs.Characters.{is_escape, byte_of, byte_character_of, word_value};
@@ -13,32 +14,35 @@ pub enum OperandKind {
     Byte,
 }
 
+// The base of an escape's digits, with its radix.
+#[derive(Clone, Copy)]
+enum Base {
+    Octal = 8,
+    Hexadecimal = 16,
+}
+
 // The last number of a character. In the definitions one more stands for no number.
 const LAST_NUMBER: u32 = 0x10FFFF;
 
 // `n` with the digit that `b` is behind it.
-#[tactic(auto, unfolding(crate::specs::Characters::with_digit))]
-fn with_digit(radix: u32, n: u32, b: u8) -> Option<u32>
-    requires radix_least { 2 ≤ radix }
-    requires radix_most { radix ≤ 16 }
-    requires number { n < no_number }
-    ensures value { unwrap_or result no_number ≡ with_digit radix n (digit_of b) }
+fn with_digit(base: Base, n: u32, b: u8) -> Option<u32>
+    requires { n < no_number }
+    ensures value { unwrap_or result no_number ≡ with_digit (radix base) n (digit_of b) }
     ensures number { IfSome result (λ m. m < no_number) }
 {
+    let radix = base as u32;
     let digit = char::from(b).to_digit(radix)?;
     let more = n * radix + digit;
     (more <= LAST_NUMBER).then_some(more)
 }
 
 // The number that digits are.
-fn digits_of(radix: u32, digits: &[u8]) -> Option<u32>
-    requires radix_least { 2 ≤ radix }
-    requires radix_most { radix ≤ 16 }
-    ensures { unwrap_or result no_number ≡ digits_from radix digits.now 0 }
+fn digits_of(base: Base, digits: &[u8]) -> Option<u32>
+    ensures { unwrap_or result no_number ≡ digits_from (radix base) digits.now 0 }
 {
     let mut n = 0;
     for b in digits {
-        n = with_digit(radix, n, *b)?;
+        n = with_digit(base, n, *b)?;
     }
     Some(n)
 }
@@ -83,16 +87,14 @@ fn short_of(b: u8) -> Option<u32>
     }
 }
 
-// The radix of an escape with the letter `b` in a word of `n` bytes.
+// The base of an escape with the letter `b` in a word of `n` bytes.
 #[tactic(auto, unfolding(crate::specs::Characters::radix_of))]
-fn radix_of(b: u8, n: usize) -> Option<u32>
-    ensures value { unwrap_or result 0 ≡ radix_of b n }
-    ensures least { IfSome result (λ radix. 2 ≤ radix) }
-    ensures most { IfSome result (λ radix. radix ≤ 16) }
+fn radix_of(b: u8, n: usize) -> Option<Base>
+    ensures { unwrap_or (option_map radix result) 0 ≡ radix_of b n }
 {
     match (b, n) {
-        (b'o', 5) => Some(8),
-        (b'x' | b'X', 4) | (b'u', 6) | (b'U', 10) => Some(16),
+        (b'o', 5) => Some(Base::Octal),
+        (b'x' | b'X', 4) | (b'u', 6) | (b'U', 10) => Some(Base::Hexadecimal),
         _ => None,
     }
 }

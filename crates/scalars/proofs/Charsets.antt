@@ -54,7 +54,7 @@ row b c rows e =
 -- ---- there and back
 
 no_byte : {b : ℕ} → None ≡ Some b → ⊥
-no_byte e = let z : ◌≡◌ {A = ℕ} 0 1 = cc in omega arith
+no_byte e = cc
 
 same_byte : {a b : ℕ} → Some a ≡ Some b → a ≡ b
 same_byte e = cc

@@ -1,4 +1,4 @@
--- The loops over rows, which have come to row i: the row decides, or those behind it do.
+-- What a look through rows goes by, by a loop or by a call that finds the first that passes.
 use Rattle.std.proofs.Common.{◌≡◌, ℕ, ◌+◌, ◌<◌, ◌≤◌, Bool, List, [], ◌∷◌, Option, None, Some, MatchOption, IsSomeAnd, length, get_or, drop, find, option_map, add-one, drop-cons, drop_of_length-le, ap, sym, ◌∙◌}
 use Rattle.basics.specs.Choice.{pick, if_some}
 use Rattle.basics.proofs.Tests.{by_cases}
