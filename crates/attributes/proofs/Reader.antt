@@ -1,6 +1,8 @@
 -- Each way through the reading of a line: what the calls answered, put into the definitions.
 use Rattle.std.proofs.Common.{◌≡◌, refl, ℕ, ◌-◌, Bool, true, false, List, [], ◌∷◌, length, Option, None, Some, Result, Ok, arith}
 use borrow.Author.Tests.{eq-eqb, ne_eqb}
+use Rattle.basics.proofs.Tests.{on_result, on_value}
+use Rattle.lines.proofs.Openings.{on_opening}
 use Rattle.basics.specs.Choice.{pick}
 use Rattle.basics.specs.declared.Refusal.TheVariants.{UnknownDirective, MissingOperand, TrailingText}
 use Rattle.lines.specs.Words.{word_at, bytes_of, same_bytes, is_over}
@@ -62,3 +64,6 @@ pub first_word : (line : List ℕ) (w : Word) (r : Result DotLine LineFault) →
     → r ≡ pick (same_bytes (bytes_of line w) (ascii "dot")) (dot_at ByAttribute line w.end (length line - w.start)) (fault UnknownDirective (length line - w.start)) → r ≡ dot_line line
 unfolding dot_line
 first_word line w r e h = rw (← e) h
+
+-- each way through what calls answered
+pub ruleset ways = (on_result, on_value, on_opening)

@@ -1,6 +1,7 @@
 -- The first word of a line: what the calls answered, put into the definition.
 use Rattle.std.proofs.Common.{◌≡◌, ℕ, ◌-◌, List, Result, Ok, length}
 use Rattle.basics.specs.Ascii.{ascii}
+use Rattle.basics.proofs.Tests.{chosen, on_value, on_result}
 use Rattle.basics.specs.Choice.{pick, if_ok}
 use Rattle.lines.specs.Words.{word_at, bytes_of, same_bytes}
 use Rattle.lines.specs.declared.LineFault.{LineFault}
@@ -17,3 +18,8 @@ pub first_word : (charset : ℕ) (line : List ℕ) (w : Word) (r : Result TableL
     → r ≡ table_line charset line
 unfolding table_line
 first_word charset line w r e h = rw (← e) h
+
+-- each way through what calls answered
+pub ruleset ways = (on_result, on_value)
+
+pub ruleset on_word = (first_word, chosen, on_result)

@@ -18,7 +18,8 @@ use Rattle.byte_tables.specs.declared.TableLine.TheVariants.{Skip, Dot, Byte}
 abbrev pub byte_count : ℕ
 byte_count = 256
 
--- what the lines so far leave: the cell of each byte that has a line, the states of the dots, and how many byte lines there were
+-- what the lines so far leave: the cell of each byte that has a line, the states of the dots, and how many byte lines
+-- there were
 abbrev pub so_far : List (Option ℕ) → DotStates → ℕ → SoFar
 so_far slots dots count = record { slots = slots; dots = dots; count = count }
 
@@ -47,7 +48,9 @@ step charset s line = with_line s (read_table_line charset line)
 
 -- the table of a text in a local character set: 21, then 1, then the first faulty line
 unfoldable pub compiled_bytes : ℕ → List ℕ → Outcome SoFar
-compiled_bytes charset text = pick (is_charset charset) (run_text (step charset) begun text) (rejected UnknownCharset 0 0)
+compiled_bytes charset text =
+    pick (is_charset charset) (run_text (step charset) begun text)
+    (rejected UnknownCharset 0 0)
 
 -- the answer: the count of its byte lines, the `dot` lines not counted, or the refusal with its line
 abbrev pub bytes_reply : Outcome SoFar → Reply ℕ

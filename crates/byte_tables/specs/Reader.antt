@@ -1,5 +1,5 @@
--- Reading a line of a byte table: `byte`, which may be missing, a byte and its dots; or `dot`, a dot number and a state.
--- Faults 6 to 9 and 16 as met from left to right.
+-- Reading a line of a byte table: `byte`, which may be missing, a byte and its dots; or `dot`, a dot number and a
+-- state. Faults 6 to 9 and 16 as met from left to right.
 use Rattle.std.specs.Prelude.{ℕ, ◌-◌, Bool, not, ◌||◌, List, Option, None, Result, Ok, length, get_or, eqb}
 use Rattle.basics.specs.Ascii.{ascii}
 use Rattle.basics.specs.Choice.{pick, if_ok}
@@ -17,7 +17,8 @@ use Rattle.byte_tables.specs.declared.TableLine.TheVariants.{Skip, Dot, Byte}
 
 -- of the escapes only `\\`, `\x` and `\X` stand here, told by the byte after the backslash
 abbrev pub is_byte_form : List ℕ → Bool
-is_byte_form w = not (is_escape w) || (eqb (get_or w 1 0) backslash || (eqb (get_or w 1 0) 120 || eqb (get_or w 1 0) 88))
+is_byte_form w =
+    not (is_escape w) || (eqb (get_or w 1 0) backslash || (eqb (get_or w 1 0) 120 || eqb (get_or w 1 0) 88))
 
 -- the byte of a whole word of these forms, in a local character set
 unfoldable pub form_byte : ℕ → List ℕ → Option ℕ

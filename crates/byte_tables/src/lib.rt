@@ -3,7 +3,8 @@
 
 ghost use Rattle.std.specs.Prelude.{◌≡◌, ◌+◌, ◌≤◌, ◌<◌, length, IfOk};
 ghost use Rattle.byte_tables.specs.Reader.{is_byte_form, form_byte, byte_at, byte_line, table_line, read_table_line};
-ghost use Rattle.byte_tables.specs.Compile.{compiled_bytes, bytes_reply, begun, step, shown_by, cells_from, no_cells, outcome_cells};
+ghost use Rattle.byte_tables.specs.Compile.{compiled_bytes, bytes_reply, begun, step};
+ghost use Rattle.byte_tables.specs.Compile.{shown_by, cells_from, no_cells, outcome_cells};
 ghost use Rattle.byte_tables.specs.Internal.{LineWithin, left_by};
 ghost use Rattle.attributes.specs.Internal.{text_gives};
 ghost use Rattle.lines.specs.Internal.{step_of};
@@ -14,8 +15,8 @@ use attributes::{DotLine, DotStates, State, States};
 use basics::Refusal;
 use lines::{LineFault, Opening, Parsed, Rejection, TEXT_LIMIT};
 
-// A line as read: nothing, a dot with its state, or a byte with its cell, whose first word begins `left` bytes before the
-// line's end.
+// A line as read: nothing, a dot with its state, or a byte with its cell, whose first word begins `left` bytes before
+// the line's end.
 #[derive(Clone, Copy)]
 pub enum TableLine {
     Skip,
@@ -23,8 +24,8 @@ pub enum TableLine {
     Byte { byte: u8, cell: u8, left: usize },
 }
 
-// What the lines so far leave: the cell of each byte that has a line, the states of the dots, and how many byte lines there
-// were.
+// What the lines so far leave: the cell of each byte that has a line, the states of the dots, and how many byte lines
+// there were.
 #[derive(Clone, Copy)]
 pub struct SoFar {
     pub slots: [Option<u8>; 256],
@@ -32,8 +33,8 @@ pub struct SoFar {
     pub count: usize,
 }
 
-// What compiling answers, with the count of byte lines, and the cells of the 256 bytes, all 255 where there are none. The cells
-// stand beside the answer, since a refusal hands them too.
+// What compiling answers, with the count of byte lines, and the cells of the 256 bytes, all 255 where there are none.
+// The cells stand beside the answer, since a refusal hands them too.
 #[derive(Clone, Copy)]
 pub struct Compilation {
     pub answer: Result<usize, Rejection>,
@@ -64,7 +65,7 @@ fn form_byte(charset: u32, w: &[u8]) -> Option<u8>
 }
 
 // The next word from `at` on as a byte operand.
-#[tactic(auto, using(basics::proofs::Tests::on_result, basics::proofs::Tests::on_value), unfolding(crate::specs::Reader::byte_at))]
+#[tactic(auto, using(crate::proofs::Reader::ways), unfolding(crate::specs::Reader::byte_at))]
 fn byte_at(charset: u32, line: &[u8], at: usize) -> Result<Parsed<u8>, LineFault>
     requires { at ≤ length line.now }
     ensures value { result ≡ byte_at charset line.now at }
@@ -101,7 +102,7 @@ fn byte_line(charset: u32, line: &[u8], at: usize, left: usize) -> Result<TableL
 }
 
 // A line that is no comment, from its first word on.
-#[tactic(auto, using(crate::proofs::Reader::first_word, basics::proofs::Tests::chosen, basics::proofs::Tests::on_result))]
+#[tactic(auto, using(crate::proofs::Reader::on_word))]
 fn table_line(charset: u32, line: &[u8]) -> Result<TableLine, LineFault>
     ensures value { result ≡ table_line charset line.now }
     ensures line_within { IfOk result (λ read. LineWithin read) }
