@@ -123,35 +123,24 @@ pub fn attribute_cell(places: [State; 8], byte: u8) -> u8
     cell_by(false, places, byte)
 }
 
-// The attribute of a name. Tests one after another: a `match` on eight texts leaves a goal for each byte where two
-// differ.
-#[tactic(auto, using(basics::proofs::Tests::chosen), unfolding(crate::specs::Reader::attribute_of))]
+// The attribute of a name.
 fn attribute_of(name: &[u8]) -> Option<Attribute>
     ensures { result ≡ attribute_of name.now }
 {
-    if lines::same_bytes(name, b"fg-blue") {
-        return Some(Attribute::FgBlue);
-    }
-    if lines::same_bytes(name, b"fg-green") {
-        return Some(Attribute::FgGreen);
-    }
-    if lines::same_bytes(name, b"fg-red") {
-        return Some(Attribute::FgRed);
-    }
-    if lines::same_bytes(name, b"fg-bright") {
-        return Some(Attribute::FgBright);
-    }
-    if lines::same_bytes(name, b"bg-blue") {
-        return Some(Attribute::BgBlue);
-    }
-    if lines::same_bytes(name, b"bg-green") {
-        return Some(Attribute::BgGreen);
-    }
-    if lines::same_bytes(name, b"bg-red") {
-        return Some(Attribute::BgRed);
-    }
-    if lines::same_bytes(name, b"blink") {
-        return Some(Attribute::Blink);
+    let names: [(&[u8], Attribute); 8] = [
+        (b"fg-blue", Attribute::FgBlue),
+        (b"fg-green", Attribute::FgGreen),
+        (b"fg-red", Attribute::FgRed),
+        (b"fg-bright", Attribute::FgBright),
+        (b"bg-blue", Attribute::BgBlue),
+        (b"bg-green", Attribute::BgGreen),
+        (b"bg-red", Attribute::BgRed),
+        (b"blink", Attribute::Blink),
+    ];
+    for (text, attribute) in names {
+        if lines::same_bytes(name, text) {
+            return Some(attribute);
+        }
     }
     None
 }
