@@ -20,7 +20,8 @@ bit_of A.Blink = 0x80
 abbrev pub is_on : Attribute → ℕ → Bool
 is_on name byte = eqb (byte / bit_of name % 2) 1
 
--- whether a dot is raised: `=` by its bit on, `~` by its bit off, `on` always, `off` never; one without a line as the default says
+-- whether a dot is raised: `=` by its bit on, `~` by its bit off, `on` always, `off` never; one without a line as the
+-- default says
 abbrev pub is_raised : Bool → State → ℕ → Bool
 is_raised unnamed Unnamed byte = unnamed
 is_raised unnamed (On name) byte = is_on name byte

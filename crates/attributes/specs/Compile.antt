@@ -3,7 +3,8 @@ use Rattle.std.specs.Prelude.{ℕ, ◌+◌, Bool, true, false, List, Option, Non
 use Rattle.basics.specs.Choice.{pick, if_ok}
 use Rattle.basics.specs.Refusals.{Reply}
 use Rattle.basics.specs.declared.Refusal.TheVariants.{AlreadyDefined}
-use Rattle.lines.specs.Texts.{opening_of, if_directive, Step, next, stop, Outcome, accepted, rejected, run_text, outcome_reply}
+use Rattle.lines.specs.Texts.{opening_of, if_directive, Step, next, stop}
+use Rattle.lines.specs.Texts.{Outcome, accepted, rejected, run_text, outcome_reply}
 use Rattle.lines.specs.declared.LineFault.{LineFault}
 use Rattle.attributes.specs.Cells.{all_unnamed}
 use Rattle.attributes.specs.Reader.{dot_line}

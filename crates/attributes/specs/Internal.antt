@@ -1,4 +1,5 @@
--- What the code knows beyond the rules: a dot that is read is one of eight, a word lies within its line, and how it says what a text gives.
+-- What the code knows beyond the rules: a dot that is read is one of eight, a word lies within its line, and how it says
+-- what a text gives.
 use Rattle.std.specs.Prelude.{ℕ, ◌≤◌, ◌<◌, List, length, Result, Ok, Err}
 use Rattle.lines.specs.Texts.{Outcome, accepted, rejected}
 use Rattle.lines.specs.declared.Word.{Word}

@@ -1,6 +1,7 @@
--- Reading a line of an attributes table: `dot`, a dot number, a state. Faults 5, 6, 8, 9 and 16 as met from left to right.
--- From behind `dot` on a line of a byte table reads the same, but for two states more.
-use Rattle.std.specs.Prelude.{ℕ, ◌-◌, Bool, ◌&&◌, List, Option, None, Some, Result, Ok, Err, length, get_or, drop, eqb, leb}
+-- Reading a line of an attributes table: `dot`, a dot number, a state. Faults 5, 6, 8, 9 and 16 as met from left to
+-- right. From behind `dot` on a line of a byte table reads the same, but for two states more.
+use Rattle.std.specs.Prelude.{ℕ, ◌-◌, Bool, ◌&&◌, List, length, get_or, drop, eqb, leb}
+use Rattle.std.specs.Prelude.{Option, None, Some, Result, Ok, Err}
 use Rattle.basics.specs.Ascii.{ascii}
 use Rattle.basics.specs.Choice.{pick, if_some, if_ok}
 use Rattle.basics.specs.declared.Refusal.{Refusal}
@@ -42,7 +43,10 @@ state_of w = named_state (get_or w 0 0) (drop 1 w)
 
 -- or, in a table where they stand, `on` or `off`
 unfoldable pub fixed_state : List ℕ → Option State
-fixed_state w = pick (same_bytes w (ascii "on")) (Some Always) (pick (same_bytes w (ascii "off")) (Some Never) (state_of w))
+fixed_state w =
+    pick (same_bytes w (ascii "on")) (Some Always)
+    (pick (same_bytes w (ascii "off")) (Some Never)
+    (state_of w))
 
 -- the state operand of a table, by the states that it knows
 abbrev pub state_in : States → List ℕ → Option State

@@ -1,11 +1,13 @@
-// Attributes tables: from a VGA attribute byte to its cell. And what byte tables share with them: `dot` lines, and the cell
-// of a byte by the states of the dots.
+// Attributes tables: from a VGA attribute byte to its cell. And what byte tables share with them: `dot` lines, and the
+// cell of a byte by the states of the dots.
 #![tactic(auto)]
 
 ghost use Rattle.std.specs.Prelude.{◌≡◌, ◌+◌, ◌≤◌, ◌<◌, length, IfOk, IfSome};
 ghost use Rattle.attributes.specs.Cells.{is_on, is_raised, cell_by, attribute_cell, all_unnamed};
-ghost use Rattle.attributes.specs.Reader.{attribute_of, state_of, fixed_state, state_in, dot_number, operand_word, ended, state_at, dot_at, dot_line};
-ghost use Rattle.attributes.specs.Compile.{is_named, read_dot_line, dot_states, with_dot, dot_step, compiled_attributes, attributes_reply, outcome_places};
+ghost use Rattle.attributes.specs.Reader.{attribute_of, state_of, fixed_state, state_in, dot_number, operand_word};
+ghost use Rattle.attributes.specs.Reader.{ended, state_at, dot_at, dot_line};
+ghost use Rattle.attributes.specs.Compile.{is_named, read_dot_line, dot_states, with_dot, dot_step};
+ghost use Rattle.attributes.specs.Compile.{compiled_attributes, attributes_reply, outcome_places};
 ghost use Rattle.attributes.specs.Internal.{DotWithin, WordWithin, text_gives};
 ghost use Rattle.lines.specs.Lines.{without_cr};
 ghost use Rattle.lines.specs.Texts.{text_limit, outcome_column, compiled_reply, compiled_column};
@@ -44,8 +46,8 @@ pub enum States {
     WithFixed,
 }
 
-// What the attributes compile call answers, with the count of `dot` lines, and the table: the state of dot d is the (d-1)-th.
-// The table stands beside the answer, since a refusal hands one too, with all dots unnamed.
+// What the attributes compile call answers, with the count of `dot` lines, and the table: the state of dot d is the
+// (d-1)-th. The table stands beside the answer, since a refusal hands one too, with all dots unnamed.
 #[derive(Clone, Copy)]
 pub struct Attributes {
     pub answer: Result<usize, Rejection>,
@@ -121,34 +123,24 @@ pub fn attribute_cell(places: [State; 8], byte: u8) -> u8
     cell_by(false, places, byte)
 }
 
-// The attribute of a name. Tests one after another: a `match` on eight texts leaves a goal for each byte where two differ.
-#[tactic(auto, using(basics::proofs::Tests::chosen), unfolding(crate::specs::Reader::attribute_of))]
+// The attribute of a name.
 fn attribute_of(name: &[u8]) -> Option<Attribute>
     ensures { result ≡ attribute_of name.now }
 {
-    if lines::same_bytes(name, b"fg-blue") {
-        return Some(Attribute::FgBlue);
-    }
-    if lines::same_bytes(name, b"fg-green") {
-        return Some(Attribute::FgGreen);
-    }
-    if lines::same_bytes(name, b"fg-red") {
-        return Some(Attribute::FgRed);
-    }
-    if lines::same_bytes(name, b"fg-bright") {
-        return Some(Attribute::FgBright);
-    }
-    if lines::same_bytes(name, b"bg-blue") {
-        return Some(Attribute::BgBlue);
-    }
-    if lines::same_bytes(name, b"bg-green") {
-        return Some(Attribute::BgGreen);
-    }
-    if lines::same_bytes(name, b"bg-red") {
-        return Some(Attribute::BgRed);
-    }
-    if lines::same_bytes(name, b"blink") {
-        return Some(Attribute::Blink);
+    let names: [(&[u8], Attribute); 8] = [
+        (b"fg-blue", Attribute::FgBlue),
+        (b"fg-green", Attribute::FgGreen),
+        (b"fg-red", Attribute::FgRed),
+        (b"fg-bright", Attribute::FgBright),
+        (b"bg-blue", Attribute::BgBlue),
+        (b"bg-green", Attribute::BgGreen),
+        (b"bg-red", Attribute::BgRed),
+        (b"blink", Attribute::Blink),
+    ];
+    for (text, attribute) in names {
+        if lines::same_bytes(name, text) {
+            return Some(attribute);
+        }
     }
     None
 }
@@ -237,7 +229,7 @@ pub fn ended(line: &[u8], at: usize) -> Result<(), LineFault>
 }
 
 // The state at the end of a line, from behind the dot number on.
-#[tactic(auto, using(basics::proofs::Tests::on_result, basics::proofs::Tests::on_value), unfolding(crate::specs::Reader::state_at))]
+#[tactic(auto, using(crate::proofs::Reader::ways), unfolding(crate::specs::Reader::state_at))]
 fn state_at(states: States, line: &[u8], at: usize) -> Result<State, LineFault>
     requires { at ≤ length line.now }
     ensures { result ≡ state_at states line.now at }
@@ -254,7 +246,7 @@ fn state_at(states: States, line: &[u8], at: usize) -> Result<State, LineFault>
 }
 
 // A line from behind the word `dot` on, in a table that knows these states.
-#[tactic(auto, using(basics::proofs::Tests::on_result, basics::proofs::Tests::on_value), unfolding(crate::specs::Reader::dot_at))]
+#[tactic(auto, using(crate::proofs::Reader::ways), unfolding(crate::specs::Reader::dot_at))]
 pub fn dot_at(states: States, line: &[u8], at: usize, left: usize) -> Result<DotLine, LineFault>
     requires { at ≤ length line.now }
     ensures value { result ≡ dot_at states line.now at left }
@@ -289,7 +281,7 @@ fn dot_line(line: &[u8]) -> Result<DotLine, LineFault>
 }
 
 // A whole line, without its end: a dot with its state, or nothing.
-#[tactic(auto, using(lines::proofs::Openings::on_opening, basics::proofs::Tests::on_result), unfolding(crate::specs::Compile::read_dot_line))]
+#[tactic(auto, using(crate::proofs::Reader::ways), unfolding(crate::specs::Compile::read_dot_line))]
 fn read_dot_line(line: &[u8]) -> Result<Option<DotLine>, LineFault>
     ensures value { result ≡ read_dot_line line.now }
     ensures dot_within { IfOk result (λ read. IfSome read (λ d. DotWithin d)) }

@@ -1,5 +1,5 @@
--- Blocks: a condition without a further directive governs the lines up to `endIf`, with `else` between. What a line has to know of the blocks that are
--- open around it, and what a line does to them.
+-- Blocks: a condition without a further directive governs the lines up to `endIf`, with `else` between. What a line has
+-- to know of the blocks that are open around it, and what a line does to them.
 use Rattle.std.specs.Prelude.{ℕ, ◌-◌, Bool, true, false, not, List, [], ◌∷◌, length, drop}
 use Rattle.basics.specs.Choice.{pick}
 use Rattle.blocks.specs.declared.OpenBlock.{OpenBlock}
@@ -23,13 +23,14 @@ is_taken b = pick b.past b.second b.first
 abbrev pub around : ℕ → Bool → Bool → Bool → Around
 around room taken turns closes = record { room = room; taken = taken; turns = turns; closes = closes }
 
--- by the open blocks, the innermost first. Whether a line is taken goes by the innermost alone, since a block that opens in lines not taken
--- has no half that is
+-- by the open blocks, the innermost first. Whether a line is taken goes by the innermost alone, since a block that opens
+-- in lines not taken has no half that is
 unfoldable pub around_of : List OpenBlock → Around
 around_of [] = around depth_limit true false false
 around_of (b ∷ bs) = around (depth_limit - length (b ∷ bs)) (is_taken b) (not b.past) true
 
--- a line that opens a block behind a failed condition, or inside lines not taken: the block still opens, and neither of its halves is taken
+-- a line that opens a block behind a failed condition, or inside lines not taken: the block still opens, and neither of
+-- its halves is taken
 abbrev pub inert : BlockLine → BlockLine
 inert (Open first second) = Open false false
 inert Else = Else

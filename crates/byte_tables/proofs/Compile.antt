@@ -1,111 +1,88 @@
 -- One line more, and the lines of a text one after another.
-use Prim.Native.Nat.{ℕ, ◌+◌, ◌-◌, ◌≤◌, ◌<◌}
-use mathlib.Core.Path.{◌≡◌, refl}
-use mathlib.Core.Bool.{Bool, true, false, not}
-use mathlib.Core.List.{List}
-use native.Mathlib.Nat.{add-zero}
-use native.Mathlib.Omega.{arith}
-use lib.ListN.{length, take, drop, get_or, set, replicate}
-use lib.Seq.{set-get_or}
+use Rattle.std.proofs.Common.{◌≡◌, sym, ℕ, ◌+◌, ◌-◌, ◌≤◌, ◌<◌, Bool, true, false, not, List, length, take, drop, get_or, set, None, Some, Result, Ok, Err, arith}
 use borrow.Author.Tests.{lt-ltb, not-true, not-false}
 use Rattle.basics.proofs.Tests.{told, by_cases}
-use Rattle.basics.specs.declared.Refusal.{Refusal}
-use Rattle.basics.specs.declared.Refusal.TheVariants.{TextTooLong, LineTooLong, UnknownCharset}
+use Rattle.basics.specs.declared.Refusal.TheVariants.{AlreadyDefined, TextTooLong, LineTooLong, UnknownCharset}
 use Rattle.scalars.specs.Characters.{is_charset}
-use Rattle.lines.specs.Texts.{text_limit, line_limit, opening_of, Step, next, stop, column_of, rejected, run_text, outcome_column}
+use Rattle.lines.specs.Texts.{text_limit, line_limit, opening_of, Step, next, stop, Outcome, rejected, run_text, outcome_column, rejection_of}
 use Rattle.lines.specs.Lines.{without_cr}
-use Rattle.lines.specs.Internal.{LineEnd, leaves}
-use Rattle.lines.specs.declared.Stopped.{Stopped}
-use Rattle.lines.specs.declared.Stopped.TheVariants.{No, By}
-use Rattle.lines.proofs.Texts.{Reached, line_read, line_refused, text_first, text_long, run_column}
-use Rattle.definitions.specs.declared.Cell.{Cell}
-use Rattle.definitions.specs.declared.Cell.TheVariants.{Absent, Dots}
-use Rattle.attributes.specs.Cells.{all_unnamed}
-use Rattle.attributes.specs.Compile.{dot_states, with_dot}
-use Rattle.attributes.specs.Internal.{DotWithin}
+use Rattle.lines.specs.Internal.{LineEnd, step_of}
+use Rattle.lines.specs.declared.LineFault.{LineFault}
+use Rattle.lines.specs.declared.Rejection.{Rejection}
+use Rattle.lines.proofs.Texts.{Reached, outcome_of, line_read, line_refused, text_first, text_long, run_column}
+use Rattle.attributes.specs.Compile.{with_dot}
 use Rattle.attributes.specs.declared.DotStates.{DotStates}
 use Rattle.attributes.specs.declared.DotLine.{DotLine}
 use Rattle.byte_tables.specs.Reader.{read_table_line}
-use Rattle.byte_tables.specs.Compile.{byte_count, slot, SoFar, so_far, begun, with_dots, with_byte, with_line, step, compiled_bytes}
-use Rattle.byte_tables.specs.Internal.{LineWithin, byte_in, stepped, common_taken, byte_taken, line_taken}
-use Rattle.byte_tables.specs.declared.Slot.{Slot}
+use Rattle.byte_tables.specs.Compile.{so_far, begun, with_line, step, compiled_bytes}
+use Rattle.byte_tables.specs.Internal.{left_by}
+use Rattle.byte_tables.specs.declared.SoFar.{SoFar}
 use Rattle.byte_tables.specs.declared.TableLine.{TableLine}
-use Rattle.byte_tables.specs.declared.TableLine.TheVariants.{Common, Byte}
-use Rattle.byte_tables.specs.declared.Stepped.{Stepped}
+use Rattle.byte_tables.specs.declared.TableLine.TheVariants.{Skip, Dot, Byte}
 
--- ---- one line
+-- read is what was answered of a line
+module _ (charset : ℕ) (s : SoFar) (line : List ℕ) (n : ℕ) (read : Result TableLine LineFault) (c : take n line ≡ without_cr line) (e : read ≡ read_table_line charset (take n line)) where
+  step_read : {x : Step SoFar} → x ≡ with_line s read → x ≡ step charset s (without_cr line)
+  unfolding step
+  step_read h = rw (← c, ← e) h
 
--- what a dot's line leaves, o and f as the call answered it
-module _ (dots : DotStates) (asked : Slot) (read : DotLine) (o : Stopped) (f : DotStates) (does : leaves o f ≡ with_dot dots read) where
-  pub common_refused : (refusal : Refusal) (left : ℕ) → o ≡ By refusal left → stepped (By refusal left) dots asked 0 ≡ common_taken dots asked (with_dot dots read)
-  common_refused refusal left q = rw (← does, q)
+  pub line_fault : (r : Result Unit LineFault) (t : SoFar) (fault : LineFault) → read ≡ Err fault → r ≡ Err fault → step_of (left_by r t) ≡ step charset s (without_cr line)
+  line_fault r t fault q p = step_read (rw (q, p))
 
-  pub common_read : o ≡ No → stepped No f asked 0 ≡ common_taken dots asked (with_dot dots read)
-  common_read q = rw (← does, q)
+  pub line_skip : (t : TableLine) → read ≡ Ok t → t ≡ Skip → next s ≡ step charset s (without_cr line)
+  line_skip t q z = step_read (rw (q, z))
 
--- the case k of what was read, and of the cell in the slot
-pub on_read : (dots : DotStates) (asked : Slot) {read k : TableLine} {r : Stepped} → read ≡ k → r ≡ line_taken dots asked k → r ≡ line_taken dots asked read
-on_read dots asked q h = rw q h
+  -- a dot's line, o being what was answered of it
+  module _ (t : TableLine) (d : DotLine) (o : Result DotStates LineFault) (q : read ≡ Ok t) (z : t ≡ Dot d) (does : step_of o ≡ with_dot s.dots d) where
+    pub dot_fault : (r : Result Unit LineFault) (u : SoFar) (fault : LineFault) → o ≡ Err fault → r ≡ Err fault → step_of (left_by r u) ≡ step charset s (without_cr line)
+    dot_fault r u fault p h = step_read (rw (q, z, ← does, p, h))
 
-pub on_earlier : (dots : DotStates) (asked : Slot) (cell left : ℕ) {earlier k : Cell} {r : Stepped} → earlier ≡ k → r ≡ byte_taken k dots asked cell left → r ≡ byte_taken earlier dots asked cell left
-on_earlier dots asked cell left q h = rw q h
+    pub dot_taken : (dots : DotStates) → o ≡ Ok dots → next (so_far s.slots dots s.count) ≡ step charset s (without_cr line)
+    dot_taken dots p = step_read (rw (q, z, ← does, p))
 
-pub common_within : {read : TableLine} {k : DotLine} → LineWithin read → read ≡ Common k → DotWithin k
-common_within h q = rw q at h
+  -- a byte's line
+  module _ (t : TableLine) (byte cell left : ℕ) (q : read ≡ Ok t) (z : t ≡ Byte byte cell left) where
+    pub byte_again : (earlier : ℕ) → get_or s.slots byte None ≡ Some earlier → stop AlreadyDefined left ≡ step charset s (without_cr line)
+    byte_again earlier p = step_read (rw (q, z, p))
 
--- the whole table with the parts that a line leaves
-abbrev table_with : List Slot → ℕ → ℕ → Stepped → Step SoFar
-table_with slots count i r = leaves r.stopped (so_far (set slots i r.slot) r.dots (count + r.counted))
+    pub byte_taken : get_or s.slots byte None ≡ None → next (so_far (set s.slots byte (Some cell)) s.dots (s.count + 1)) ≡ step charset s (without_cr line)
+    byte_taken p = step_read (rw (q, z, p))
 
--- which is what the line does
-common_done : (slots : List Slot) (dots : DotStates) (count i : ℕ) (a : Step DotStates) → table_with slots count i (common_taken dots (get_or slots i (slot Absent)) a) ≡ with_dots (so_far slots dots count) a
-common_done slots dots count i (next more) = rw (set-get_or slots i (slot Absent), add-zero count)
-common_done slots dots count i (stop refusal left) = refl
-
-byte_done : (slots : List Slot) (dots : DotStates) (asked : Slot) (earlier : Cell) (count byte cell left : ℕ)
-    → table_with slots count byte (byte_taken earlier dots asked cell left) ≡ with_byte (so_far slots dots count) earlier byte cell left
-byte_done slots dots asked Absent count byte cell left = refl
-byte_done slots dots asked (Dots c) count byte cell left = refl
-
-line_done : (slots : List Slot) (dots : DotStates) (count : ℕ) (read : TableLine)
-    → table_with slots count (byte_in read) (line_taken dots (get_or slots (byte_in read) (slot Absent)) read) ≡ with_line (so_far slots dots count) read
-line_done slots dots count (Common read) = common_done slots dots count 0 (with_dot dots read)
-line_done slots dots count (Byte byte cell left) = byte_done slots dots (get_or slots byte (slot Absent)) (get_or slots byte (slot Absent)).cell count byte cell left
+pub ruleset on_line = (line_fault, line_skip, dot_fault, dot_taken, byte_again, byte_taken)
 
 -- ---- the lines of a text
 
-pub come_first : (charset : ℕ) (text : List ℕ) (dots : DotStates) → is_charset charset ≡ true → length text ≤ text_limit → dots ≡ dot_states all_unnamed 0
-    → Reached (step charset) text (compiled_bytes charset text) 0 1 (so_far (replicate byte_count (slot Absent)) dots 0)
-unfolding compiled_bytes
-come_first charset text dots known short e = rw (e, known) (text_first (step charset) begun text short)
-
 -- k is what a call answered of the set
 module _ (charset : ℕ) (text : List ℕ) (k : Bool) (is : k ≡ is_charset charset) where
-  pub no_set : not k ≡ true → compiled_bytes charset text ≡ rejected UnknownCharset 0 0
+  pub no_set : not k ≡ true → rejected UnknownCharset 0 0 ≡ compiled_bytes charset text
   unfolding compiled_bytes
   no_set q = rw (told is (not-true k q))
 
-  pub known_set : not k ≡ false → is_charset charset ≡ true
-  known_set q = told is (not-false k q)
+  module _ (q : not k ≡ false) where
+    pub long_text : text_limit < length text → rejected TextTooLong 0 0 ≡ compiled_bytes charset text
+    unfolding compiled_bytes
+    long_text h = rw (told is (not-false k q)) (sym (text_long (step charset) begun text h))
 
-  pub long_text : not k ≡ false → text_limit < length text → compiled_bytes charset text ≡ rejected TextTooLong 0 0
-  unfolding compiled_bytes
-  long_text q h = rw (known_set q) (text_long (step charset) begun text h)
+    pub come_first : (s : SoFar) → length text ≤ text_limit → s ≡ begun → Reached (step charset) text (compiled_bytes charset text) 0 1 s
+    unfolding compiled_bytes
+    come_first s short e = rw (e, told is (not-false k q)) (text_first (step charset) begun text short)
 
--- the next line ends at e, is read so and asks for the slot of a byte; r is what the call on it left
-module _ (charset : ℕ) (text : List ℕ) (at n : ℕ) (slots : List Slot) (dots : DotStates) (count : ℕ) (here : Reached (step charset) text (compiled_bytes charset text) at n (so_far slots dots count))
-    (e : ℕ) (some : at < length text) (ends : LineEnd text at e) (read : TableLine) (reads : read ≡ read_table_line charset (without_cr (take (e - at) (drop at text))))
-    (byte : ℕ) (asks : byte ≡ byte_in read) (r : Stepped) (taken : r ≡ line_taken dots (get_or slots byte (slot Absent)) read) where
-  does : table_with slots count byte r ≡ step charset (so_far slots dots count) (without_cr (take (e - at) (drop at text)))
-  unfolding step
-  does = rw (taken, asks, ← reads) (line_done slots dots count read)
+-- the next line ends at e, r and t are what a call that took it answered and left
+module _ (charset : ℕ) (text : List ℕ) (at n : ℕ) (s : SoFar) (here : Reached (step charset) text (compiled_bytes charset text) at n s) (e : ℕ) (some : at < length text) (ends : LineEnd text at e)
+    (r : Result Unit LineFault) (t : SoFar) (does : step_of (left_by r t) ≡ step charset s (without_cr (take (e - at) (drop at text)))) where
+  pub taken_refused : (fault : LineFault) → r ≡ Err fault → compiled_bytes charset text ≡ outcome_of (rejection_of fault (take (e - at) (drop at text)) n)
+  taken_refused fault q = line_refused (step charset) text (compiled_bytes charset text) at n s here e (left_by r t) some ends does fault (rw q)
 
-  pub taken_refused : (refusal : Refusal) (left : ℕ) {column : ℕ} → r.stopped ≡ By refusal left → column ≡ column_of (without_cr (take (e - at) (drop at text))) left
-      → compiled_bytes charset text ≡ rejected refusal n column
-  taken_refused refusal left q c = line_refused (step charset) text (compiled_bytes charset text) at n _ here e _ _ some ends does refusal left q c
+  pub taken_read : (u : Unit) → r ≡ Ok u → Reached (step charset) text (compiled_bytes charset text) (e + 1) (n + 1) t
+  taken_read u q = line_read (step charset) text (compiled_bytes charset text) at n s here e (left_by r t) some ends does t (rw q)
 
-  pub taken_read : r.stopped ≡ No → Reached (step charset) text (compiled_bytes charset text) (e + 1) (n + 1) (so_far (set slots byte r.slot) r.dots (count + r.counted))
-  taken_read q = line_read (step charset) text (compiled_bytes charset text) at n _ here e _ _ some ends does q
+pub none_yet : (s : SoFar) → s ≡ begun → (s.dots.lines ≤ 0) × (s.count ≤ 0)
+none_yet s e = rw e (omega arith, omega arith)
+
+-- what the code answered of a fault
+pub refused_as : (whole : Outcome SoFar) (here : List ℕ) (n : ℕ) (fault : LineFault) (e : Rejection) → e ≡ rejection_of fault here n → whole ≡ outcome_of (rejection_of fault here n)
+    → rejected e.refusal e.line e.column ≡ whole
+refused_as whole here n fault e q h = rw (q, h)
 
 step_long : (charset : ℕ) (s : SoFar) (line : List ℕ) → line_limit < length line → step charset s line ≡ stop LineTooLong (length line - line_limit)
 unfolding step read_table_line opening_of
