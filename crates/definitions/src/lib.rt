@@ -1,16 +1,14 @@
 // A definition, and what a table has for a character.
 #![tactic(auto)]
 
-ghost use Rattle.std.specs.Prelude.{◌≡◌};
+ghost use Rattle.std.specs.Prelude.{◌≡◌, Some};
 ghost use Rattle.definitions.specs.Definitions.{cell_of, target_of, types};
-
-use basics::{Maybe, Refusal};
 
 // How many definitions a table may have.
 pub const DEFINITION_LIMIT: usize = 1024;
 
 // What a character means: typed and shown dots, shown dots, or an alias to another character.
-#[derive(Clone, Copy)]
+#[derive(Clone, Copy, PartialEq, Eq)]
 pub enum Meaning {
     Typed(u8),
     Shown(u8),
@@ -24,20 +22,6 @@ pub struct Definition {
     pub meaning: Meaning,
 }
 
-// What a table has for a character.
-#[derive(Clone, Copy)]
-pub enum Found {
-    Undefined,
-    Is(Meaning),
-}
-
-// An explicit cell, where there is one.
-#[derive(Clone, Copy)]
-pub enum Cell {
-    Absent,
-    Dots(u8),
-}
-
 // The end of an alias walk, and how many links it has.
 #[derive(Clone, Copy)]
 pub struct Walk {
@@ -45,62 +29,43 @@ pub struct Walk {
     pub links: usize,
 }
 
-// Whether a definition may take effect.
-#[derive(Clone, Copy)]
-pub enum Verdict {
-    Admitted,
-    Refused(Refusal),
-}
-
 // The explicit cell of a meaning.
-fn meaning_cell(m: Meaning) -> Cell
-    ensures { result ≡ cell_of (Found.Is m) }
+fn meaning_cell(m: Meaning) -> Option<u8>
+    ensures { result ≡ cell_of (Some m) }
 {
     match m {
-        Meaning::Typed(dots) => Cell::Dots(dots),
-        Meaning::Shown(dots) => Cell::Dots(dots),
-        Meaning::Alias(_) => Cell::Absent,
+        Meaning::Typed(dots) | Meaning::Shown(dots) => Some(dots),
+        Meaning::Alias(_) => None,
     }
 }
 
 // The explicit cell of what was found.
-pub fn cell_of(f: Found) -> Cell
-    ensures { result ≡ cell_of f }
+pub fn cell_of(found: Option<Meaning>) -> Option<u8>
+    ensures { result ≡ cell_of found }
 {
-    match f {
-        Found::Undefined => Cell::Absent,
-        Found::Is(m) => meaning_cell(m),
-    }
+    meaning_cell(found?)
 }
 
 // The alias target of a meaning.
-pub fn meaning_target(m: Meaning) -> Maybe
-    ensures { result ≡ target_of (Found.Is m) }
+pub fn meaning_target(m: Meaning) -> Option<u32>
+    ensures { result ≡ target_of (Some m) }
 {
     match m {
-        Meaning::Typed(_) => Maybe::Nothing,
-        Meaning::Shown(_) => Maybe::Nothing,
-        Meaning::Alias(target) => Maybe::Character(target),
+        Meaning::Typed(_) | Meaning::Shown(_) => None,
+        Meaning::Alias(target) => Some(target),
     }
 }
 
 // The alias target of what was found.
-pub fn target_of(f: Found) -> Maybe
-    ensures { result ≡ target_of f }
+pub fn target_of(found: Option<Meaning>) -> Option<u32>
+    ensures { result ≡ target_of found }
 {
-    match f {
-        Found::Undefined => Maybe::Nothing,
-        Found::Is(m) => meaning_target(m),
-    }
+    meaning_target(found?)
 }
 
 // Whether a meaning is that of a `char` line with that cell.
 pub fn types_cell(m: Meaning, cell: u8) -> bool
     ensures { result ≡ types m cell }
 {
-    match m {
-        Meaning::Typed(dots) => dots == cell,
-        Meaning::Shown(_) => false,
-        Meaning::Alias(_) => false,
-    }
+    m == Meaning::Typed(cell)
 }

@@ -12,15 +12,13 @@ use Rattle.basics.specs.Refusals.{Reply, answered, refused, and_then}
 use Rattle.basics.specs.Buffers.{over}
 use Rattle.scalars.specs.Characters.{is_scalar}
 use Rattle.definitions.specs.Definitions.{table}
-use Rattle.table.specs.declared.Checked.{Checked}
-use Rattle.table.specs.declared.Checked.TheVariants.{Sound, FaultAt}
+use Rattle.std.specs.Prelude.{Result, Ok, Err}
 use Rattle.pairs.specs.Words.{table_words, charset_of, definitions, table_of}
 use Rattle.table.specs.Check.{check_of, lent_table}
 use Rattle.table.proofs.Lent.{lent_fault, lent_sound}
 use Rattle.rules.specs.declared.Answer.{Answer}
 use Rattle.rules.specs.declared.LastCells.{LastCells}
-use Rattle.lookup.specs.declared.NoScalar.{NoScalar}
-use Rattle.lookup.specs.declared.NoScalar.TheVariants.{Nowhere, At}
+use Rattle.std.specs.Prelude.{Option, None, Some}
 use Rattle.rules.specs.Rules.{candidates, rules_from3, lookup}
 use Rattle.lookup.specs.Calls.{lookup_reply, first_no_scalar, unless_at, page_plan, Pages}
 use Rattle.rules.specs.Internal.{last_cells, lookup_by}
@@ -32,7 +30,7 @@ module _ (ws : List ℕ) (c : ℕ) where
   unfolding lookup_reply
   look_refused e = rw e
 
-  pub look_sound : (n : ℕ) {r : Checked} {v : Reply Answer} → table_words ≤ length ws → r ≡ check_of ws → r ≡ Sound n
+  pub look_sound : (n : ℕ) {r : Result ℕ ℕ} {v : Reply Answer} → table_words ≤ length ws → r ≡ check_of ws → r ≡ Ok n
       → v ≡ pick (is_scalar c) (answered (lookup (charset_of ws) (table (definitions n ws)) c)) (refused 14 0) → v ≡ lookup_reply ws c
   unfolding lookup_reply
   look_sound n h p q e = rw (lent_sound ws n h p q) e
@@ -40,9 +38,9 @@ module _ (ws : List ℕ) (c : ℕ) where
 -- ---- the first character that is no scalar value
 
 -- x is what the loop is to answer
-module _ (x : NoScalar) (cs : List ℕ) (i : ℕ) (inv : x ≡ first_no_scalar (drop i cs) i) where
+module _ (x : Option ℕ) (cs : List ℕ) (i : ℕ) (inv : x ≡ first_no_scalar (drop i cs) i) where
   module _ (s : Bool) (h : i < length cs) (e : s ≡ is_scalar (get_or cs i 0)) where
-    pub first_here : not s ≡ true → At i ≡ x
+    pub first_here : not s ≡ true → Some i ≡ x
     unfolding first_no_scalar
     first_here q = sym (inv ∙ rw (drop-cons cs i 0, ← e, not-true s q))
 
@@ -50,7 +48,7 @@ module _ (x : NoScalar) (cs : List ℕ) (i : ℕ) (inv : x ≡ first_no_scalar (
     unfolding first_no_scalar
     first_later q = inv ∙ rw (drop-cons cs i 0, ← e, not-false s q, add-one i)
 
-  pub first_none : length cs ≤ i → Nowhere ≡ x
+  pub first_none : length cs ≤ i → None ≡ x
   unfolding first_no_scalar
   first_none h = sym (inv ∙ rw (drop_of_length-le cs h))
 
@@ -80,19 +78,19 @@ module _ (ws cs cells rules : List ℕ) where
   pub page_refused : {number place : ℕ} → plan ≡ refused number place → Settles (refused number place) cells rules
   page_refused e = pages_refused e
 
-  module _ {r : Checked} (long : table_words ≤ length ws) (wide : length cs ≤ length cells) (deep : length cs ≤ length rules) (p : r ≡ check_of ws) where
+  module _ {r : Result ℕ ℕ} (long : table_words ≤ length ws) (wide : length cs ≤ length cells) (deep : length cs ≤ length rules) (p : r ≡ check_of ws) where
     planned : plan ≡ and_then (lent_table ws) (λ ds. unless_at (first_no_scalar cs 0) (lookup (charset_of ws) (table ds)))
     unfolding page_plan
     planned = rw (le-ltb (length cells) (length cs) wide, le-ltb (length rules) (length cs) deep)
 
-    pub page_fault : {pair : ℕ} → r ≡ FaultAt pair → Settles (refused 15 pair) cells rules
+    pub page_fault : {pair : ℕ} → r ≡ Err pair → Settles (refused 15 pair) cells rules
     page_fault {pair} q = pages_refused (planned ∙ rw (lent_fault ws pair long p q))
 
-    module _ {n : ℕ} {s : NoScalar} (q : r ≡ Sound n) (from : s ≡ first_no_scalar cs 0) where
-      pub page_no_scalar : {i : ℕ} → s ≡ At i → Settles (refused 14 i) cells rules
+    module _ {n : ℕ} {s : Option ℕ} (q : r ≡ Ok n) (from : s ≡ first_no_scalar cs 0) where
+      pub page_no_scalar : {i : ℕ} → s ≡ Some i → Settles (refused 14 i) cells rules
       page_no_scalar e = pages_refused (planned ∙ rw (lent_sound ws n long p q, ← from, e))
 
-      pub page_filled : {last : LastCells} {new-cells new-rules : List ℕ} → s ≡ Nowhere → last ≡ last_cells (table_of n ws)
+      pub page_filled : {last : LastCells} {new-cells new-rules : List ℕ} → s ≡ None → last ≡ last_cells (table_of n ws)
           → new-cells ≡ over (map (λ (c : ℕ). (lookup_by (charset_of ws) (table_of n ws) last c).cell) cs) cells
           → new-rules ≡ over (map (λ (c : ℕ). (lookup_by (charset_of ws) (table_of n ws) last c).rule) cs) rules
           → Settles (answered tt) new-cells new-rules

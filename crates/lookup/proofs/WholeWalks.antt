@@ -16,10 +16,8 @@ use Rattle.pairs.specs.Words.{charset_of}
 use Rattle.table.specs.Check.{lent_table}
 use Rattle.table.proofs.Readback.{lent_admits}
 use Rattle.rules.specs.declared.Answer.{Answer}
-use Rattle.lookup.specs.declared.Looked.{Looked}
-use Rattle.lookup.specs.declared.Looked.TheVariants.{Answered}
 use Rattle.rules.specs.Rules.{lookup}
-use Rattle.lookup.specs.Calls.{lookup_reply, looked_reply, Followed, LentLinks}
+use Rattle.lookup.specs.Calls.{lookup_reply, reply_of, Followed, LentLinks}
 use Rattle.rules.proofs.Choices.{rules_chosen}
 
 lookup_followed : (charset : ℕ) (ds : List Definition) → Admits [] ds → (c : ℕ) → Followed charset ds c (lookup charset (table ds) c).links
@@ -46,7 +44,7 @@ lent_links ws c {r} e = go (lent_table ws) r refl e
     go (refused number place) r p e = tt
 
 -- such links are as few as the definitions of a table
-pub shown_small : (ws : List ℕ) (c : ℕ) {r : Looked} {a : Answer} → looked_reply r ≡ lookup_reply ws c → r ≡ Answered a → a.links ≤ definition_limit
+pub shown_small : (ws : List ℕ) (c : ℕ) {r : Looked} {a : Answer} → reply_of r ≡ lookup_reply ws c → r ≡ Answered a → a.links ≤ definition_limit
 unfolding lookup_reply
 shown_small ws c {r} {a} p q = go (lent_table ws) refl (rw (← p, q)) (rw q at (lent_links ws c p))
   where

@@ -1,7 +1,7 @@
 -- What the lookup call and the page call answer and write. Order of refusals: 2, 15, 14.
-use Rattle.std.specs.Prelude.{ℕ, ◌+◌, ◌≤◌, ◌≡◌, ◌||◌, List, [], ◌∷◌, map, length, ltb}
+use Rattle.std.specs.Prelude.{ℕ, ◌+◌, ◌≤◌, ◌≡◌, ◌||◌, List, [], ◌∷◌, map, length, ltb, Option, None, Some}
 use Rattle.basics.specs.Choice.{pick}
-use Rattle.basics.specs.Refusals.{number_of, Reply, answered, refused, and_then}
+use Rattle.basics.specs.Refusals.{Reply, answered, refused, and_then}
 use Rattle.basics.specs.Buffers.{over}
 use Rattle.scalars.specs.Characters.{is_scalar, is_braille, local_of}
 use Rattle.definitions.specs.declared.Definition.{Definition}
@@ -10,19 +10,10 @@ use Rattle.pairs.specs.Words.{charset_of}
 use Rattle.table.specs.Check.{lent_table}
 use Rattle.rules.specs.Rules.{lookup}
 use Rattle.rules.specs.declared.Answer.{Answer}
-use Rattle.lookup.specs.declared.Looked.{Looked}
-use Rattle.lookup.specs.declared.Looked.TheVariants as L
-use Rattle.lookup.specs.declared.NoScalar.{NoScalar}
-use Rattle.lookup.specs.declared.NoScalar.TheVariants.{Nowhere, At}
 
 -- the lookup call
 unfoldable pub lookup_reply : List ℕ → ℕ → Reply Answer
 lookup_reply ws c = and_then (lent_table ws) (λ ds. pick (is_scalar c) (answered (lookup (charset_of ws) (table ds) c)) (refused 14 0))
-
--- the number, place and values of each case of its answer
-abbrev pub looked_reply : Looked → Reply Answer
-looked_reply (L.Answered a) = answered a
-looked_reply (L.Refused refusal place) = refused (number_of refusal) place
 
 -- "the links followed", as a lookup answers them: rule 1 follows none; else they are the whole walk of the character as it stands after rule 2
 pub record Followed (charset : ℕ) (ds : List Definition) (c links : ℕ) : Type 0 where
@@ -37,15 +28,15 @@ LentLinks charset (answered ds) c (refused number place) = Unit {0}
 LentLinks charset (refused number place) c reply = Unit {0}
 
 -- the first character that is no scalar value, the first of the list at i
-unfoldable pub first_no_scalar : List ℕ → ℕ → NoScalar
-first_no_scalar [] i = Nowhere
+unfoldable pub first_no_scalar : List ℕ → ℕ → Option ℕ
+first_no_scalar [] i = None
 first_no_scalar (c ∷ cs) i =
-    let rest : NoScalar = first_no_scalar cs (i + 1) in
-    pick (is_scalar c) rest (At i)
+    let rest : Option ℕ = first_no_scalar cs (i + 1) in
+    pick (is_scalar c) rest (Some i)
 
-abbrev pub unless_at : {A : Type 0} → NoScalar → A → Reply A
-unless_at Nowhere a = answered a
-unless_at (At i) a = refused 14 i
+abbrev pub unless_at : {A : Type 0} → Option ℕ → A → Reply A
+unless_at None a = answered a
+unless_at (Some i) a = refused 14 i
 
 -- the page call, for buffers of so many bytes: the lookup that fills them, or a refusal
 unfoldable pub page_plan : List ℕ → List ℕ → ℕ → ℕ → Reply (ℕ → Answer)

@@ -1,2 +1,2 @@
-pub mod Pairs
+pub mod Scan
 pub mod Walks

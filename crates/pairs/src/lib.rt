@@ -1,15 +1,16 @@
-// The pairs of words that are definitions: what is found for a character, its alias walk, what refuses a definition.
-// A count is that of the pairs that count as definitions.
+// The pairs of words that are definitions; and, however a character is found among definitions, its alias walk and what refuses
+// a definition.
 #![tactic(auto)]
 
-ghost use Rattle.std.specs.Prelude.{◌≡◌, ◌*◌, ◌≤◌, length};
-ghost use Rattle.definitions.specs.Definitions.{find, found_in, explicit};
+ghost use Rattle.std.specs.Prelude.{◌≡◌, List, ◌*◌, ◌≤◌, length};
+ghost use Rattle.definitions.specs.declared.Definition.{Definition};
+ghost use Rattle.definitions.specs.Definitions.{find, found_in, table, explicit};
 ghost use Rattle.definitions.specs.Effects.{closes_loop, verdict_of};
-ghost use Rattle.pairs.specs.Words.{meaning_of, definitions, table_of};
+ghost use Rattle.pairs.specs.Words.{meaning_of, definitions};
 ghost use Rattle.pairs.specs.Internal.{walk_with_cell};
 
-use basics::{Maybe, Refusal};
-use definitions::{Cell, DEFINITION_LIMIT, Definition, Found, Meaning, Verdict};
+use basics::Refusal;
+use definitions::{DEFINITION_LIMIT, Definition, Meaning};
 
 // 2^24, which parts the kind of a second word from its number.
 pub const KIND_UNIT: u32 = 0x1000000;
@@ -19,115 +20,125 @@ pub const KIND_UNIT: u32 = 0x1000000;
 pub struct Walked {
     pub end: u32,
     pub links: usize,
-    pub cell: Cell,
+    pub cell: Option<u8>,
+}
+
+// Definitions in which a character is found: by a walk over pairs, or by an order of them.
+pub trait Finder {
+    ghost definitions: { Self → List Definition };
+
+    // What the earliest definition of a character says.
+    fn find(&self, character: u32) -> Option<Meaning>
+        ensures { result ≡ find (definitions self.now) character };
+
+    // How many definitions there are.
+    fn count(&self) -> usize
+        ensures { result ≡ length (definitions self.now) };
+}
+
+// The pairs of some words that count as definitions.
+#[derive(Clone, Copy)]
+pub struct Pairs<'a> {
+    pub words: &'a [u32],
+    pub count: usize,
+    ghost fits: { 2 * count ≤ length words.now },
+}
+
+impl Finder for Pairs<'_> {
+    ghost definitions = { λ p. definitions p.count p.words.now };
+
+    fn find(&self, character: u32) -> Option<Meaning> {
+        for i in 0..self.count {
+            if self.words[2 * i] == character {
+                return Some(meaning_of(self.words[2 * i + 1]));
+            }
+        }
+        None
+    }
+
+    fn count(&self) -> usize {
+        self.count
+    }
 }
 
 // What a second word says, whatever it holds.
+#[tactic(auto, using(basics::proofs::Tests::tests), unfolding(crate::specs::Words::meaning_of))]
 pub fn meaning_of(w: u32) -> Meaning
     ensures { result ≡ meaning_of w }
 {
-    let kind = w / KIND_UNIT;
-    if kind == 1 {
-        return Meaning::Typed((w % 256) as u8);
+    match w / KIND_UNIT {
+        1 => Meaning::Typed((w % 256) as u8),
+        2 => Meaning::Shown((w % 256) as u8),
+        _ => Meaning::Alias(w % KIND_UNIT),
     }
-    if kind == 2 {
-        return Meaning::Shown((w % 256) as u8);
-    }
-    Meaning::Alias(w % KIND_UNIT)
 }
 
-// What the first pair of the character `c` says.
-fn find_pair(words: &[u32], count: usize, c: u32) -> Found
-    requires { 2 * count ≤ length words.now }
-    ensures { result ≡ find (definitions count words.now) c }
-{
-    let mut i = 0;
-    while i < count {
-        if words[2 * i] == c {
-            return Found::Is(meaning_of(words[2 * i + 1]));
-        }
-        i += 1;
-    }
-    Found::Undefined
-}
-
-// What the table has for a character. One of the braille row shows its low eight bits, and its pairs are not asked.
-fn found_in(words: &[u32], count: usize, character: u32) -> Found
-    requires { 2 * count ≤ length words.now }
-    ensures { result ≡ found_in (definitions count words.now) character }
+// What a table has for a character. One of the braille row shows its low eight bits, and its definitions are not asked.
+#[tactic(auto, using(basics::proofs::Tests::chosen), unfolding(definitions::specs::Definitions::found_in))]
+fn found_in<T: Finder>(finder: &T, character: u32) -> Option<Meaning>
+    ensures { result ≡ found_in (T.definitions finder.now) character }
 {
     if scalars::is_braille(character) {
-        return Found::Is(Meaning::Shown((character % 256) as u8));
+        return Some(Meaning::Shown((character % 256) as u8));
     }
-    find_pair(words, count, character)
+    finder.find(character)
 }
 
-// The explicit cell of `c`.
-pub fn explicit_cell(words: &[u32], count: usize, c: u32) -> Cell
-    requires { 2 * count ≤ length words.now }
-    ensures { result ≡ explicit (table_of count words.now) c }
+// The explicit cell of a character.
+#[tactic(auto, unfolding(definitions::specs::Definitions::explicit))]
+pub fn explicit_cell<T: Finder>(finder: &T, character: u32) -> Option<u8>
+    ensures { result ≡ explicit (table (T.definitions finder.now)) character }
 {
-    definitions::cell_of(found_in(words, count, c))
+    definitions::cell_of(found_in(finder, character))
 }
 
-// The alias walk of `c`. What was found at its end says the cell too, so that the end is not looked for again.
-pub fn walk_from(words: &[u32], count: usize, c: u32) -> Walked
-    requires { 2 * count ≤ length words.now }
-    ensures { result ≡ walk_with_cell (table_of count words.now) c }
+// The alias walk of a character. What was found at its end says the cell too, so that the end is not looked for again.
+pub fn walk_from<T: Finder>(finder: &T, character: u32) -> Walked
+    ensures { result ≡ walk_with_cell (table (T.definitions finder.now)) character }
 {
-    let mut at = c;
+    let mut end = character;
     let mut links = 0;
     loop {
-        let f = found_in(words, count, at);
-        if links < count {
-            if let Maybe::Character(target) = definitions::target_of(f) {
-                at = target;
+        let found = found_in(finder, end);
+        if links < finder.count() {
+            if let Some(target) = definitions::target_of(found) {
+                end = target;
                 links += 1;
                 continue;
             }
         }
-        return Walked {
-            end: at,
-            links,
-            cell: definitions::cell_of(f),
-        };
+        let cell = definitions::cell_of(found);
+        return Walked { end, links, cell };
     }
 }
 
-// Whether an alias of `c` by that meaning would close a loop with the definitions so far.
-pub fn closes_loop(words: &[u32], count: usize, c: u32, m: Meaning) -> bool
-    requires { 2 * count ≤ length words.now }
-    ensures { result ≡ closes_loop (definitions count words.now) (record { character = c; meaning = m }) }
+// Whether a definition would close a loop with those so far.
+#[tactic(auto, using(basics::proofs::Tests::on_value))]
+pub fn closes_loop<T: Finder>(finder: &T, d: Definition) -> bool
+    ensures { result ≡ closes_loop (T.definitions finder.now) d }
 {
-    match definitions::meaning_target(m) {
-        Maybe::Nothing => false,
-        Maybe::Character(target) => {
-            let w = walk_from(words, count, target);
-            w.end == c
-        }
+    match definitions::meaning_target(d.meaning) {
+        None => false,
+        Some(target) => walk_from(finder, target).end == d.character,
     }
 }
 
 // Whether a definition may take effect after those so far: 22, 11, 12, 13 in this order.
-pub fn judge(words: &[u32], count: usize, d: Definition) -> Verdict
-    requires { 2 * count ≤ length words.now }
-    ensures { result ≡ verdict_of (definitions count words.now) d }
+#[tactic(auto, using(definitions::proofs::Admission::judged), unfolding(definitions::specs::Effects::verdict_of))]
+pub fn judge<T: Finder>(finder: &T, d: Definition) -> Result<(), Refusal>
+    ensures { result ≡ verdict_of (T.definitions finder.now) d }
 {
-    let c = d.character;
-    let m = d.meaning;
-    if scalars::is_braille(c) {
-        return Verdict::Refused(Refusal::BrailleRow);
+    if scalars::is_braille(d.character) {
+        return Err(Refusal::BrailleRow);
     }
-    match find_pair(words, count, c) {
-        Found::Is(_) => Verdict::Refused(Refusal::AlreadyDefined),
-        Found::Undefined => {
-            if closes_loop(words, count, c, m) {
-                return Verdict::Refused(Refusal::AliasLoop);
-            }
-            if DEFINITION_LIMIT <= count {
-                return Verdict::Refused(Refusal::TableFull);
-            }
-            Verdict::Admitted
-        }
+    if finder.find(d.character).is_some() {
+        return Err(Refusal::AlreadyDefined);
     }
+    if closes_loop(finder, d) {
+        return Err(Refusal::AliasLoop);
+    }
+    if DEFINITION_LIMIT <= finder.count() {
+        return Err(Refusal::TableFull);
+    }
+    Ok(())
 }

@@ -9,17 +9,15 @@ use lib.Dec.{eqb}
 use lib.ListN.{length}
 use Rattle.basics.proofs.Tests.{told, by_cases, same_twice}
 use Rattle.basics.specs.Choice.{pick}
-use Rattle.basics.specs.declared.Maybe.{Maybe}
+use Rattle.std.specs.Prelude.{Option, None, Some}
 use Rattle.scalars.specs.Characters.{is_private, local_of}
-use Rattle.definitions.specs.declared.Cell.{Cell}
-use Rattle.definitions.specs.declared.Cell.TheVariants.{Absent, Dots}
 use Rattle.definitions.specs.Definitions.{Table, explicit, walk}
 use Rattle.definitions.proofs.Cells.{own_cell}
 use Rattle.pairs.specs.declared.Walked.{Walked}
 use Rattle.pairs.specs.Internal.{walk_with_cell}
 use Rattle.rules.specs.declared.Answer.{Answer}
 use Rattle.rules.specs.declared.LastCells.{LastCells}
-use Rattle.rules.specs.Rules.{explicit_of, end_cell, candidates, if_dots, choose, rules_from3, passed, lookup}
+use Rattle.rules.specs.Rules.{explicit_of, end_cell, candidates, choose, rules_from3, passed, lookup}
 use Rattle.rules.specs.Internal.{last_cells, later_candidates, walk_answer, rules_by, lookup_by}
 
 -- ---- what choosing keeps
@@ -30,11 +28,11 @@ pub record Chosen (rule candidates walked : ℕ) (a : Answer) : Type 0 where
   pub to : a.rule ≤ rule + candidates
   pub links : a.links ≡ walked
 
-pub choose_chosen : (rule : ℕ) (os : List Cell) (links : ℕ) → Chosen rule (length os) links (choose rule os links)
+pub choose_chosen : (rule : ℕ) (os : List (Option ℕ)) (links : ℕ) → Chosen rule (length os) links (choose rule os links)
 unfolding choose
 choose_chosen rule [] links = record { from = omega arith; to = omega arith; links = refl }
-choose_chosen rule (Dots dots ∷ os) links = record { from = omega arith; to = omega arith; links = refl }
-choose_chosen rule (Absent ∷ os) links =
+choose_chosen rule (Some dots ∷ os) links = record { from = omega arith; to = omega arith; links = refl }
+choose_chosen rule (None ∷ os) links =
     let rest = choose_chosen (rule + 1) os links in
     record { from = omega arith; to = omega arith; links = rest.links }
 
@@ -44,37 +42,27 @@ rules_chosen T c = choose_chosen 3 (candidates T c) (walk T c).links
 
 -- ---- each way through the rules
 
--- r is what a call answered of an explicit cell
-module _ {A : Type 0} (r o : Cell) (none : A) (some : ℕ → A) (v : A) (e : r ≡ o) where
-  pub cell_none : r ≡ Absent → v ≡ none → v ≡ if_dots o none some
-  cell_none q h = rw (← e, q) h
-
-  pub cell_some : (dots : ℕ) → r ≡ Dots dots → v ≡ some dots → v ≡ if_dots o none some
-  cell_some dots q h = rw (← e, q) h
-
-pub ruleset on_cell = (cell_none, cell_some)
-
 -- the explicit cell of a character that a call answered
-pub asked : (T : Table) {m o : Maybe} {r : Cell} → m ≡ o → r ≡ explicit_of T m → r ≡ explicit_of T o
+pub asked : (T : Table) {m o : Option ℕ} {r : Option ℕ} → m ≡ o → r ≡ explicit_of T m → r ≡ explicit_of T o
 asked T p q = rw (← p) q
 
 -- rules 3 and 4 as the walk of a character decides them; w is what a call answered of it
 module _ (T : Table) (c : ℕ) (w : Walked) (from : w ≡ walk_with_cell T c) where
   module _ (last : LastCells) where
-    walk_first : rules_by T last c ≡ choose 3 (pick (eqb w.links 0) w.cell Absent ∷ pick (eqb w.links 0) Absent w.cell ∷ later_candidates T last c) w.links
+    walk_first : rules_by T last c ≡ choose 3 (pick (eqb w.links 0) w.cell None ∷ pick (eqb w.links 0) None w.cell ∷ later_candidates T last c) w.links
     walk_first = rw (from, own_cell T c)
 
     -- its end has no cell: the rules from 5 on
-    pub rule_later : {r : Answer} → w.cell ≡ Absent → r ≡ choose 5 (later_candidates T last c) w.links → r ≡ rules_by T last c
+    pub rule_later : {r : Answer} → w.cell ≡ None → r ≡ choose 5 (later_candidates T last c) w.links → r ≡ rules_by T last c
     unfolding choose
-    rule_later none e = e ∙ sym (walk_first ∙ rw (none, same_twice (eqb w.links 0) Absent))
+    rule_later none e = e ∙ sym (walk_first ∙ rw (none, same_twice (eqb w.links 0) None))
 
     -- its end has a cell: rule 3 where there is no link, else rule 4
-    pub rule_walked : (dots : ℕ) {r : Answer} → w.cell ≡ Dots dots → r ≡ walk_answer dots w.links → r ≡ rules_by T last c
+    pub rule_walked : (dots : ℕ) {r : Answer} → w.cell ≡ Some dots → r ≡ walk_answer dots w.links → r ≡ rules_by T last c
     unfolding choose
     rule_walked dots some e = e ∙ sym (walk_first ∙ rw some (by_cases (eqb w.links 0) (λ q. rw q) (λ q. rw q)))
 
-  pub by_walk : rules_from3 T c ≡ choose 3 (pick (eqb w.links 0) w.cell Absent ∷ pick (eqb w.links 0) Absent w.cell ∷ later_candidates T (last_cells T) c) w.links
+  pub by_walk : rules_from3 T c ≡ choose 3 (pick (eqb w.links 0) w.cell None ∷ pick (eqb w.links 0) None w.cell ∷ later_candidates T (last_cells T) c) w.links
   unfolding rules_from3 candidates
   by_walk = walk_first (last_cells T)
 
@@ -107,7 +95,7 @@ module _ (charset : ℕ) (T : Table) (last : LastCells) (c l : ℕ) (p : Bool) (
   rule_others is = rw (told private is, others, local, add-zero)
 
 -- the cells of rules 7 and 8, as two calls answered them
-pub both_asked : (T : Table) {replacement question : Cell} → replacement ≡ explicit T 0xFFFD → question ≡ explicit T 0x3F → record { replacement = replacement; question = question } ≡ last_cells T
+pub both_asked : (T : Table) {replacement question : Option ℕ} → replacement ≡ explicit T 0xFFFD → question ≡ explicit T 0x3F → record { replacement = replacement; question = question } ≡ last_cells T
 both_asked T p q = rw (p, q)
 
 -- with the table's own cells for rules 7 and 8 the rules are those of the papers

@@ -2,7 +2,6 @@
 use Rattle.std.specs.Prelude.{ℕ, ◌%◌, List, [], ◌∷◌, eqb}
 use Rattle.basics.specs.Choice.{pick}
 use Rattle.scalars.specs.Characters.{is_braille, is_private, local_of, base_of, stand_in_of}
-use Rattle.definitions.specs.declared.Cell.{Cell}
 use Rattle.definitions.specs.Definitions.{Table, explicit, walk}
 use Rattle.rules.specs.declared.Answer.{Answer}
 use Rattle.rules.specs.declared.LastCells.{LastCells}
@@ -13,11 +12,11 @@ abbrev pub last_cells : Table → LastCells
 last_cells T = record { replacement = explicit T 0xFFFD; question = explicit T 0x3F }
 
 -- rules 7 and 8
-abbrev pub last_candidates : LastCells → List Cell
+abbrev pub last_candidates : LastCells → List (Option ℕ)
 last_candidates last = last.replacement ∷ last.question ∷ []
 
 -- rules 5 to 8
-abbrev pub later_candidates : Table → LastCells → ℕ → List Cell
+abbrev pub later_candidates : Table → LastCells → ℕ → List (Option ℕ)
 later_candidates T last c = explicit_of T (base_of c) ∷ explicit_of T (stand_in_of c) ∷ last_candidates last
 
 -- rules 3 and 4, for a walk with that cell at its end

@@ -1,24 +1,21 @@
 -- From character to cell: rules 1 to 9.
-use Rattle.std.specs.Prelude.{ℕ, ◌+◌, ◌%◌, Bool, List, [], ◌∷◌, eqb}
-use Rattle.basics.specs.Choice.{pick, if_character}
-use Rattle.basics.specs.declared.Maybe.{Maybe}
+use Rattle.std.specs.Prelude.{ℕ, ◌+◌, ◌%◌, Bool, List, [], ◌∷◌, eqb, Option, None, Some}
+use Rattle.basics.specs.Choice.{pick, if_some}
 use Rattle.scalars.specs.Characters.{is_braille, is_private, local_of, base_of, stand_in_of}
-use Rattle.definitions.specs.declared.Cell.{Cell}
-use Rattle.definitions.specs.declared.Cell.TheVariants.{Absent, Dots}
 use Rattle.definitions.specs.declared.Walk.{Walk}
 use Rattle.definitions.specs.Definitions.{Table, explicit, walk}
 use Rattle.rules.specs.declared.Answer.{Answer}
 
 -- the explicit cell of a character that there may be
-abbrev pub explicit_of : Table → Maybe → Cell
-explicit_of T other = if_character other Absent (λ c. explicit T c)
+abbrev pub explicit_of : Table → Option ℕ → Option ℕ
+explicit_of T other = if_some other None (λ c. explicit T c)
 
 -- the explicit cell at the end of an alias walk that has at least one link
-abbrev pub end_cell : Table → Walk → Cell
-end_cell T w = pick (eqb w.links 0) Absent (explicit T w.end)
+abbrev pub end_cell : Table → Walk → Option ℕ
+end_cell T w = pick (eqb w.links 0) None (explicit T w.end)
 
 -- rules 3 to 8 in their order: own cell, end of the alias walk, base character, ASCII stand-in, U+FFFD, `?`
-unfoldable pub candidates : Table → ℕ → List Cell
+unfoldable pub candidates : Table → ℕ → List (Option ℕ)
 candidates T c =
     explicit T c
     ∷ end_cell T (walk T c)
@@ -28,16 +25,12 @@ candidates T c =
     ∷ explicit T 0x3F
     ∷ []
 
-abbrev pub if_dots : {A : Type 0} → Cell → A → (ℕ → A) → A
-if_dots Absent none some = none
-if_dots (Dots dots) none some = some dots
-
 -- the first cell of a list of candidates, the first of them under that rule; all eight dots where there is none
-unfoldable pub choose : ℕ → List Cell → ℕ → Answer
+unfoldable pub choose : ℕ → List (Option ℕ) → ℕ → Answer
 choose rule [] links = record { cell = 255; rule = rule; links = links }
 choose rule (o ∷ os) links =
     let rest : Answer = choose (rule + 1) os links in
-    if_dots o rest (λ dots. record { cell = dots; rule = rule; links = links })
+    if_some o rest (λ dots. record { cell = dots; rule = rule; links = links })
 
 -- rules 3 to 9, for a character as it stands after rule 2
 unfoldable pub rules_from3 : Table → ℕ → Answer

@@ -1,16 +1,16 @@
 // From a character to its cell: the nine rules.
 #![tactic(auto)]
 
-ghost use Rattle.std.specs.Prelude.{◌≡◌, ◌+◌, ◌*◌, ◌≤◌, ◌<◌, length};
-ghost use Rattle.scalars.specs.Characters.{is_private, local_of};
-ghost use Rattle.pairs.specs.Words.{charset_of, table_of};
+ghost use Rattle.std.specs.Prelude.{◌≡◌, ◌+◌, ◌<◌};
+ghost use Rattle.scalars.specs.Characters.{is_private};
+ghost use Rattle.definitions.specs.Definitions.{table};
 ghost use Rattle.rules.specs.Rules.{explicit_of, choose, passed};
 ghost use Rattle.rules.specs.Internal.{last_cells, last_candidates, later_candidates, walk_answer, rules_by, lookup_by};
 
-use basics::Maybe;
-use definitions::Cell;
+use pairs::Finder;
 
-// A cell, the number of the rule that gave it, and the length of the alias walk.
+// A cell, the number of the rule that gave it, and the length of the alias walk. The number is the papers' own, which a
+// page writes into a lent buffer, and 16 more behind rule 2.
 #[derive(Clone, Copy)]
 pub struct Answer {
     pub cell: u8,
@@ -21,48 +21,92 @@ pub struct Answer {
 // The explicit cells of U+FFFD and of the question mark, by which rules 7 and 8 answer for every character alike.
 #[derive(Clone, Copy)]
 pub struct LastCells {
-    pub replacement: Cell,
-    pub question: Cell,
+    pub replacement: Option<u8>,
+    pub question: Option<u8>,
 }
 
-// The explicit cell of a character that there may be.
-fn explicit_of(words: &[u32], count: usize, other: Maybe) -> Cell
-    requires { 2 * count ≤ length words.now }
-    ensures { result ≡ explicit_of (table_of count words.now) other }
-{
-    match other {
-        Maybe::Nothing => Cell::Absent,
-        Maybe::Character(c) => pairs::explicit_cell(words, count, c),
+// What the rules go by: definitions, their local character set, and the cells of rules 7 and 8.
+#[derive(Clone, Copy)]
+pub struct Rules<T> {
+    pub finder: T,
+    pub charset: u32,
+    pub last: LastCells,
+}
+
+impl<T: Finder> Rules<T> {
+    // Asks for the cells of rules 7 and 8, once for all characters of a call.
+    pub fn new(finder: T, charset: u32) -> Rules<T>
+        ensures finder { result.finder ≡ finder }
+        ensures charset { result.charset ≡ charset }
+        ensures last { result.last ≡ last_cells (table (T.definitions finder)) }
+    {
+        let replacement = pairs::explicit_cell(&finder, 0xFFFD);
+        let question = pairs::explicit_cell(&finder, 0x3F);
+        Rules {
+            finder,
+            charset,
+            last: LastCells {
+                replacement,
+                question,
+            },
+        }
     }
-}
 
-// The cells of rules 7 and 8: asked once for all characters of a call.
-pub fn last_cells(words: &[u32], count: usize) -> LastCells
-    requires { 2 * count ≤ length words.now }
-    ensures { result ≡ last_cells (table_of count words.now) }
-{
-    let replacement = pairs::explicit_cell(words, count, 0xFFFD);
-    let question = pairs::explicit_cell(words, count, 0x3F);
-    LastCells {
-        replacement,
-        question,
+    // The explicit cell of a character that there may be.
+    fn explicit_of(&self, other: Option<u32>) -> Option<u8>
+        ensures { result ≡ explicit_of (table (T.definitions self.now.finder)) other }
+    {
+        pairs::explicit_cell(&self.finder, other?)
+    }
+
+    // Rules 5 to 9.
+    fn later_rules(&self, c: u32, links: usize) -> Answer
+        ensures { result ≡ choose 5 (later_candidates (table (T.definitions self.now.finder)) self.now.last c) links }
+    {
+        if let Some(cell) = self.explicit_of(scalars::base_of(c)) {
+            return Answer { cell, rule: 5, links };
+        }
+        if let Some(cell) = self.explicit_of(scalars::stand_in_of(c)) {
+            return Answer { cell, rule: 6, links };
+        }
+        last_rules(self.last, links)
+    }
+
+    // Rules 3 to 9, for a character as it stands after rule 2.
+    fn rules_from_3(&self, c: u32) -> Answer
+        ensures { result ≡ rules_by (table (T.definitions self.now.finder)) self.now.last c }
+    {
+        let w = pairs::walk_from(&self.finder, c);
+        match w.cell {
+            None => self.later_rules(c, w.links),
+            Some(cell) => walk_rules(cell, w.links),
+        }
+    }
+
+    // The answer for a scalar value, by all the rules.
+    pub fn answer_of(&self, c: u32) -> Answer
+        ensures { result ≡ lookup_by self.now.charset (table (T.definitions self.now.finder)) self.now.last c }
+    {
+        if scalars::is_braille(c) {
+            return Answer { cell: (c % 256) as u8, rule: 1, links: 0 };
+        }
+        let others = self.rules_from_3(scalars::local_of(self.charset, c));
+        passed_on(c, others)
     }
 }
 
 // Rules 7 to 9.
-pub fn last_rules(last: LastCells, links: usize) -> Answer
+fn last_rules(last: LastCells, links: usize) -> Answer
     ensures { result ≡ choose 7 (last_candidates last) links }
 {
-    let replacement = last.replacement;
-    let question = last.question;
-    if let Cell::Dots(cell) = replacement {
+    if let Some(cell) = last.replacement {
         return Answer {
             cell,
             rule: 7,
             links,
         };
     }
-    if let Cell::Dots(cell) = question {
+    if let Some(cell) = last.question {
         return Answer {
             cell,
             rule: 8,
@@ -76,98 +120,24 @@ pub fn last_rules(last: LastCells, links: usize) -> Answer
     }
 }
 
-// Rules 5 to 9.
-fn later_rules(words: &[u32], count: usize, last: LastCells, c: u32, links: usize) -> Answer
-    requires { 2 * count ≤ length words.now }
-    ensures { result ≡ choose 5 (later_candidates (table_of count words.now) last c) links }
-{
-    match explicit_of(words, count, scalars::base_of(c)) {
-        Cell::Dots(cell) => Answer {
-            cell,
-            rule: 5,
-            links,
-        },
-        Cell::Absent => match explicit_of(words, count, scalars::stand_in_of(c)) {
-            Cell::Dots(cell) => Answer {
-                cell,
-                rule: 6,
-                links,
-            },
-            Cell::Absent => last_rules(last, links),
-        },
-    }
-}
-
 // Rules 3 and 4, for a walk with that cell at its end.
-pub fn walk_rules(cell: u8, links: usize) -> Answer
+fn walk_rules(cell: u8, links: usize) -> Answer
     ensures { result ≡ walk_answer cell links }
 {
-    if links == 0 {
-        return Answer {
-            cell,
-            rule: 3,
-            links,
-        };
-    }
-    Answer {
-        cell,
-        rule: 4,
-        links,
-    }
-}
-
-// Rules 3 to 9, for a character as it stands after rule 2.
-fn rules_from_3(words: &[u32], count: usize, last: LastCells, c: u32) -> Answer
-    requires { 2 * count ≤ length words.now }
-    ensures { result ≡ rules_by (table_of count words.now) last c }
-{
-    let w = pairs::walk_from(words, count, c);
-    let links = w.links;
-    let end = w.cell;
-    match end {
-        Cell::Absent => later_rules(words, count, last, c, links),
-        Cell::Dots(cell) => walk_rules(cell, links),
-    }
-}
-
-// The character after rule 2, by the set of the words, which only a private-row character asks for.
-fn local_in(words: &[u32], c: u32) -> u32
-    ensures { result ≡ local_of (charset_of words.now) c }
-{
-    if scalars::is_private(c) {
-        let charset = table::charset_of(words);
-        return scalars::local_of(charset, c);
-    }
-    c
+    let rule = if links == 0 { 3 } else { 4 };
+    Answer { cell, rule, links }
 }
 
 // What the other rules answer, as rule 2 passes it on for the character `c`.
-pub fn passed_on(c: u32, a: Answer) -> Answer
-    requires { a.rule + 16 < 256 }
-    ensures { result ≡ passed (is_private c) a }
+fn passed_on(c: u32, others: Answer) -> Answer
+    requires { others.rule + 16 < 256 }
+    ensures { result ≡ passed (is_private c) others }
 {
     if scalars::is_private(c) {
         return Answer {
-            cell: a.cell,
-            rule: a.rule + 16,
-            links: a.links,
+            rule: others.rule + 16,
+            ..others
         };
     }
-    a
-}
-
-// The answer for a scalar value, by all the rules.
-pub fn answer_of(words: &[u32], count: usize, last: LastCells, c: u32) -> Answer
-    requires { 2 * count ≤ length words.now }
-    ensures { result ≡ lookup_by (charset_of words.now) (table_of count words.now) last c }
-{
-    if scalars::is_braille(c) {
-        return Answer {
-            cell: (c % 256) as u8,
-            rule: 1,
-            links: 0,
-        };
-    }
-    let a = rules_from_3(words, count, last, local_in(words, c));
-    passed_on(c, a)
+    others
 }

@@ -17,13 +17,12 @@ use Rattle.scalars.specs.Characters.{is_scalar, is_braille, is_operand, is_chars
 use Rattle.definitions.specs.declared.Meaning.{Meaning}
 use Rattle.definitions.specs.declared.Meaning.TheVariants.{Typed, Shown, Alias}
 use Rattle.definitions.specs.declared.Definition.{Definition}
-use Rattle.definitions.specs.declared.Verdict.TheVariants.{Admitted}
+use Rattle.std.specs.Prelude.{Result, Ok, Err}
 use Rattle.definitions.specs.Effects.{definition_limit, is_defined, closes_loop, verdict_of}
 use Rattle.definitions.proofs.Admission.{admissible, Admits, admits_limit}
 use Rattle.pairs.specs.Words.{pair_words, table_words, kind_unit, word_of, words_of, pairs_of, image_of, charset_of, is_sound_word, meaning_of, definition_of, definitions}
 use Rattle.table.specs.Check.{is_zero_pair, is_definable, is_sound_pair, is_fresh, zero_from, check_from, is_sound_end, and_end, check_of, checked_table, lent_table}
-use Rattle.table.specs.declared.Checked.{Checked}
-use Rattle.table.specs.declared.Checked.TheVariants.{Sound, FaultAt}
+use Rattle.std.specs.Prelude.{Result, Ok, Err}
 
 -- ---- numbers in range
 
@@ -126,19 +125,19 @@ unfolding definitions words_of
 definitions_back [] ws f = refl
 definitions_back (d ∷ ds) ws f = rw ((word_says d.meaning f.0.number).1, definitions_back ds ws f.1)
 
-zeros_sound : (n k m : ℕ) → zero_from n k (replicate m 0) ≡ Sound n
+zeros_sound : (n k m : ℕ) → zero_from n k (replicate m 0) ≡ Ok n
 unfolding zero_from
 zeros_sound n k zero = refl
 zeros_sound n k (suc zero) = refl
 zeros_sound n k (suc (suc m)) = zeros_sound n (k + 1) m
 
-none_sound : (ds : List Definition) (m : ℕ) → check_from ds (replicate m 0) ≡ Sound (length ds)
+none_sound : (ds : List Definition) (m : ℕ) → check_from ds (replicate m 0) ≡ Ok (length ds)
 unfolding check_from
 none_sound ds zero = refl
 none_sound ds (suc zero) = refl
 none_sound ds (suc (suc m)) = zeros_sound (length ds) (length ds + 1) m
 
-words_sound : (rs ds : List Definition) (m : ℕ) → Admits ds rs → AllInRange rs → check_from ds (words_of rs ++ replicate m 0) ≡ Sound (length (ds ++ rs))
+words_sound : (rs ds : List Definition) (m : ℕ) → Admits ds rs → AllInRange rs → check_from ds (words_of rs ++ replicate m 0) ≡ Ok (length (ds ++ rs))
 unfolding check_from words_of
 words_sound [] ds m h f = rw append-nil (none_sound ds m)
 words_sound (d ∷ rs) ds m h f =
@@ -167,7 +166,7 @@ module _ (ds : List Definition) (h : Admits [] ds) (f : AllInRange ds) (charset 
 
   -- an image passes the check
   module _ (known : is_charset charset ≡ true) where
-    image_sound : check_of image ≡ Sound (length ds)
+    image_sound : check_of image ≡ Ok (length ds)
     unfolding check_of
     image_sound =
         let pairs : take pair_words image ≡ pairs_of ds = rw parts (take_at (pairs_of ds) (charset ∷ 0 ∷ u) pair_words (pairs_length ds (admits_limit ds h))) in
@@ -183,11 +182,11 @@ module _ (ds : List Definition) (h : Admits [] ds) (f : AllInRange ds) (charset 
 -- ---- words that pass the check
 
 -- a check that finds no fault
-pub no_fault : (b : Bool) (x : Checked) (k : ℕ) {n : ℕ} → pick b x (FaultAt k) ≡ Sound n → (b ≡ true) × (x ≡ Sound n)
+pub no_fault : (b : Bool) (x : Result ℕ ℕ) (k : ℕ) {n : ℕ} → pick b x (Err k) ≡ Ok n → (b ≡ true) × (x ≡ Ok n)
 no_fault true x k e = (refl, e)
 no_fault false x k e = (cc, cc)
 
-zeros_back : (n k : ℕ) (ws : List ℕ) {r : ℕ} (m : ℕ) → length ws ≡ 2 * m → zero_from n k ws ≡ Sound r → (n ≡ r) × (ws ≡ replicate (length ws) 0)
+zeros_back : (n k : ℕ) (ws : List ℕ) {r : ℕ} (m : ℕ) → length ws ≡ 2 * m → zero_from n k ws ≡ Ok r → (n ≡ r) × (ws ≡ replicate (length ws) 0)
 unfolding zero_from
 zeros_back n k [] m l e = (cc, refl)
 zeros_back n k (c ∷ []) m l e = absurd (omega arith)
@@ -212,7 +211,7 @@ no_more ds ws e z =
     let l : length ws - 0 ≡ length ws = omega arith in
     record { rest = []; count = omega arith; admits = tt; in_range = tt; words = rw l z }
 
-fresh_admitted : (ds : List Definition) (d : Definition) → is_braille d.character ≡ false → is_fresh ds d ≡ true → length ds < definition_limit → verdict_of ds d ≡ Admitted
+fresh_admitted : (ds : List Definition) (d : Definition) → is_braille d.character ≡ false → is_fresh ds d ≡ true → length ds < definition_limit → verdict_of ds d ≡ Ok tt
 unfolding verdict_of
 fresh_admitted ds d plain e room =
     let parts = both (not (is_defined ds d.character)) (not (closes_loop ds d)) e in
@@ -235,13 +234,13 @@ one_more ds c w ws room e r =
       words = rw (l, says.1) (ap (λ (v : List ℕ). c ∷ w ∷ v) r.words);
     }
 
-check_reads : (ds : List Definition) (ws : List ℕ) {n : ℕ} (m : ℕ) → length ws ≡ 2 * m → length ds + m ≤ definition_limit → check_from ds ws ≡ Sound n → PairsRead ds ws n
+check_reads : (ds : List Definition) (ws : List ℕ) {n : ℕ} (m : ℕ) → length ws ≡ 2 * m → length ds + m ≤ definition_limit → check_from ds ws ≡ Ok n → PairsRead ds ws n
 unfolding check_from
 check_reads ds [] m l room e = no_more ds [] (cc) refl
 check_reads ds (c ∷ []) m l room e = absurd (omega arith)
 check_reads ds (c ∷ w ∷ ws) zero l room e = absurd (omega arith)
 check_reads ds (c ∷ w ∷ ws) {n} (suc m) l room e =
-    by_test (λ (x : Checked). x ≡ Sound n → PairsRead ds (c ∷ w ∷ ws) n) (is_zero_pair c w)
+    by_test (λ (x : Result ℕ ℕ). x ≡ Ok n → PairsRead ds (c ∷ w ∷ ws) n) (is_zero_pair c w)
     (λ p g.
     let zeros = zeros_back (length ds) (length ds + 1) ws m (omega arith) g in
     let pair = zero_pair c w p in
@@ -283,16 +282,16 @@ lent_read ws n long r sound =
     }
 
 -- both parts of a check that is passed
-pub sound_parts : (ws : List ℕ) (n : ℕ) → check_of ws ≡ Sound n → (is_sound_end (charset_of ws) (get_or ws (pair_words + 1) 0) ≡ true) × (check_from [] (take pair_words ws) ≡ Sound n)
+pub sound_parts : (ws : List ℕ) (n : ℕ) → check_of ws ≡ Ok n → (is_sound_end (charset_of ws) (get_or ws (pair_words + 1) 0) ≡ true) × (check_from [] (take pair_words ws) ≡ Ok n)
 unfolding check_of
 sound_parts ws n e = go (check_from [] (take pair_words ws)) refl e
   where
-    go : (pairs : Checked) → check_from [] (take pair_words ws) ≡ pairs → and_end (is_sound_end (charset_of ws) (get_or ws (pair_words + 1) 0)) pairs ≡ Sound n
-        → (is_sound_end (charset_of ws) (get_or ws (pair_words + 1) 0) ≡ true) × (check_from [] (take pair_words ws) ≡ Sound n)
-    go (Sound m) p q = let parts = no_fault (is_sound_end (charset_of ws) (get_or ws (pair_words + 1) 0)) (Sound m) definition_limit q in (parts.0, p ∙ parts.1)
-    go (FaultAt pair) p q = absurd (let z : ◌≡◌ {A = ℕ} 0 1 = cc in omega arith)
+    go : (pairs : Result ℕ ℕ) → check_from [] (take pair_words ws) ≡ pairs → and_end (is_sound_end (charset_of ws) (get_or ws (pair_words + 1) 0)) pairs ≡ Ok n
+        → (is_sound_end (charset_of ws) (get_or ws (pair_words + 1) 0) ≡ true) × (check_from [] (take pair_words ws) ≡ Ok n)
+    go (Ok m) p q = let parts = no_fault (is_sound_end (charset_of ws) (get_or ws (pair_words + 1) 0)) (Ok m) definition_limit q in (parts.0, p ∙ parts.1)
+    go (Err pair) p q = absurd (let z : ◌≡◌ {A = ℕ} 0 1 = cc in omega arith)
 
-pub lent : (ws : List ℕ) (n : ℕ) → table_words ≤ length ws → check_of ws ≡ Sound n → Lent ws n
+pub lent : (ws : List ℕ) (n : ℕ) → table_words ≤ length ws → check_of ws ≡ Ok n → Lent ws n
 lent ws n long e =
     let parts = sound_parts ws n e in
     lent_read ws n long (check_reads [] (take pair_words ws) definition_limit (length-take-le pair_words ws (omega arith)) (omega arith) parts.1) parts.0
@@ -306,9 +305,9 @@ lent_table_lem P ws ds holds e =
     (λ p g. on_check (check_of ws) refl (ltb-false (length ws) table_words p) g)
     e
   where
-    on_check : (checked : Checked) → check_of ws ≡ checked → table_words ≤ length ws → checked_table ws checked ≡ answered ds → P ds
-    on_check (Sound n) p long e = let same : definitions n ws ≡ ds = cc in rw same at (holds n (lent ws n long p))
-    on_check (FaultAt pair) p long e = absurd (let z : ◌≡◌ {A = ℕ} 0 1 = cc in omega arith)
+    on_check : (checked : Result ℕ ℕ) → check_of ws ≡ checked → table_words ≤ length ws → checked_table ws checked ≡ answered ds → P ds
+    on_check (Ok n) p long e = let same : definitions n ws ≡ ds = cc in rw same at (holds n (lent ws n long p))
+    on_check (Err pair) p long e = absurd (let z : ◌≡◌ {A = ℕ} 0 1 = cc in omega arith)
 
 -- its definitions are admitted one after the other
 pub lent_admits : (ws : List ℕ) (ds : List Definition) → lent_table ws ≡ answered ds → Admits [] ds

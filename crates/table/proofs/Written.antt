@@ -14,7 +14,7 @@ use Rattle.definitions.specs.declared.Meaning.TheVariants.{Typed, Shown, Alias}
 use Rattle.definitions.specs.Effects.{definition_limit}
 use Rattle.pairs.specs.Words.{pair_words, table_words, kind_unit, word_of, words_of, pairs_of, image_of, charset_of, definitions}
 use Rattle.table.specs.Internal.{Written}
-use Rattle.pairs.proofs.Pairs.{definitions_length, definitions_two}
+use Rattle.pairs.proofs.Scan.{definitions_length, definitions_two}
 use Rattle.table.proofs.Readback.{is_number_in_range, InRange, operand_small, word_says, behind_charset, behind_beyond}
 
 -- a set put down in zeroed words

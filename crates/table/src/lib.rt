@@ -2,15 +2,16 @@
 // of the pairs that count as definitions.
 #![tactic(auto)]
 
-ghost use Rattle.std.specs.Prelude.{◌≡◌, [], ◌∷◌, ◌++◌, ◌+◌, ◌*◌, ◌≤◌, ◌<◌, length, drop, set, replicate};
+ghost use Rattle.std.specs.Prelude.{◌≡◌, [], ◌∷◌, ◌++◌, ◌+◌, ◌*◌, ◌≤◌, ◌<◌, length, drop, set, replicate, IfOk};
 ghost use Rattle.basics.specs.Internal.{bits_of};
 ghost use Rattle.definitions.specs.Effects.{definition_limit};
 ghost use Rattle.pairs.specs.Words.{pair_words, table_words, kind_unit, word_of, is_sound_word, charset_of};
-ghost use Rattle.table.specs.Check.{is_zero_pair, is_definable, is_sound_pair, zero_from, check_from, is_sound_end, and_end, check_of};
+ghost use Rattle.table.specs.Check.{is_zero_pair, is_definable, is_sound_pair, zero_from, check_from, is_sound_end, and_end, check_of, lent_table};
+ghost use Rattle.table.specs.Internal.{lent_reply};
 
-use basics::widen;
+use basics::{Refusal, Refused};
 use definitions::{DEFINITION_LIMIT, Definition, Meaning};
-use pairs::{KIND_UNIT, closes_loop, meaning_of};
+use pairs::{KIND_UNIT, Pairs, closes_loop, meaning_of};
 
 // Two words for each definition.
 pub const PAIR_WORDS: usize = 2048;
@@ -18,21 +19,14 @@ pub const PAIR_WORDS: usize = 2048;
 // The words of a table: behind its pairs the local character set, and a word that is zero.
 pub const TABLE_WORDS: usize = 2050;
 
-// What a lent slice of 2,050 words or more is: a table of so many definitions, or none, by the first pair at fault.
-#[derive(Clone, Copy)]
-pub enum Checked {
-    Sound(usize),
-    FaultAt(usize),
-}
-
 // The second word of a definition.
 fn word_of(m: Meaning) -> u32
     requires { word_of m < 4 * kind_unit }
     ensures { result ≡ word_of m }
 {
     match m {
-        Meaning::Typed(dots) => KIND_UNIT + widen(dots),
-        Meaning::Shown(dots) => 2 * KIND_UNIT + widen(dots),
+        Meaning::Typed(dots) => KIND_UNIT + u32::from(dots),
+        Meaning::Shown(dots) => 2 * KIND_UNIT + u32::from(dots),
         Meaning::Alias(target) => 3 * KIND_UNIT + target,
     }
 }
@@ -41,18 +35,12 @@ fn word_of(m: Meaning) -> u32
 fn is_sound_word(w: u32) -> bool
     ensures { result ≡ is_sound_word w }
 {
-    let kind = w / KIND_UNIT;
     let number = w % KIND_UNIT;
-    if kind == 1 {
-        return number <= 255;
+    match w / KIND_UNIT {
+        1 | 2 => number <= 255,
+        3 => scalars::is_operand(number),
+        _ => false,
     }
-    if kind == 2 {
-        return number <= 255;
-    }
-    if kind == 3 {
-        return scalars::is_operand(number);
-    }
-    false
 }
 
 // Writes definition `k`.
@@ -60,10 +48,8 @@ pub fn put(words: &mut [u32], k: usize, d: Definition)
     requires { (2 * k + 1 < length words.old) × (word_of d.meaning < 4 * kind_unit) }
     ensures { words.new ≡ set (set words.old (2 * k) d.character) (2 * k + 1) (word_of d.meaning) }
 {
-    let c = d.character;
-    let m = d.meaning;
-    words[2 * k] = c;
-    words[2 * k + 1] = word_of(m);
+    words[2 * k] = d.character;
+    words[2 * k + 1] = word_of(d.meaning);
 }
 
 // Zeroes the 2,050 words.
@@ -71,11 +57,7 @@ pub fn clear(words: &mut [u32])
     requires { table_words ≤ length words.old }
     ensures { words.new ≡ replicate table_words 0 ++ drop table_words words.old }
 {
-    let mut i = 0;
-    while i < TABLE_WORDS {
-        words[i] = 0;
-        i += 1;
-    }
+    words[..TABLE_WORDS].fill(0);
 }
 
 // Makes the words an empty table for a local character set.
@@ -91,103 +73,84 @@ pub fn make_empty(words: &mut [u32], charset: u32)
 pub fn charset_of(words: &[u32]) -> u32
     ensures { result ≡ charset_of words.now }
 {
-    if words.len() <= PAIR_WORDS {
-        return 0;
-    }
-    words[PAIR_WORDS]
+    words.get(PAIR_WORDS).copied().unwrap_or(0)
 }
 
 pub fn is_zero_pair(c: u32, w: u32) -> bool
     ensures { result ≡ is_zero_pair c w }
 {
-    if c == 0 {
-        return w == 0;
-    }
-    false
+    c == 0 && w == 0
 }
 
 fn is_definable(c: u32) -> bool
     ensures { result ≡ is_definable c }
 {
-    if scalars::is_operand(c) {
-        return !scalars::is_braille(c);
-    }
-    false
+    scalars::is_operand(c) && !scalars::is_braille(c)
 }
 
 pub fn is_sound_pair(c: u32, w: u32) -> bool
     ensures { result ≡ is_sound_pair c w }
 {
-    if is_definable(c) {
-        return is_sound_word(w);
-    }
-    false
+    is_definable(c) && is_sound_word(w)
 }
 
-// The bits that the words from `from` on have between them. The loop leaves only at its end, so that it is compiled
-// to take several words at a time.
-fn bits_from(words: &[u32], from: usize) -> u32
-    ensures { result ≡ bits_of (drop from words.now) }
+// The bits that words have between them. The walk leaves only at its end, so that it is compiled to take several words
+// at a time.
+fn bits_of(words: &[u32]) -> u32
+    ensures { result ≡ bits_of words.now }
 {
-    let mut bits = 0;
-    let mut at = from;
-    while at < words.len() {
-        bits = bits | words[at];
-        at += 1;
-    }
-    bits
+    words.iter().fold(0, |bits, w| bits | *w)
 }
 
 // Behind a zero pair: the pairs from `from` on are zero, or the first that is not is at fault. Most often all are
 // zero, and their bits tell it soonest.
-pub fn zero_from(words: &[u32], count: usize, from: usize) -> Checked
+pub fn zero_from(words: &[u32], count: usize, from: usize) -> Result<usize, usize>
     requires { (length words.now ≡ pair_words) × (from ≤ definition_limit) }
     ensures { result ≡ zero_from count from (drop (2 * from) words.now) }
 {
-    if bits_from(words, 2 * from) == 0 {
-        return Checked::Sound(count);
+    if bits_of(&words[2 * from..]) == 0 {
+        return Ok(count);
     }
-    let mut i = from;
-    while i < DEFINITION_LIMIT {
+    for i in from..DEFINITION_LIMIT {
         if !is_zero_pair(words[2 * i], words[2 * i + 1]) {
-            return Checked::FaultAt(i);
+            return Err(i);
         }
-        i += 1;
     }
-    Checked::Sound(count)
+    Ok(count)
 }
 
-// The check of the pairs: each against the earlier ones, left at the first repeat.
-fn check_words(words: &[u32]) -> Checked
+// The check of the pairs: each against the earlier ones, left at the first repeat. It answers how many are definitions, or
+// the first pair at fault. `k` is read behind the label, which a `for` does not let.
+fn check_words(words: &[u32]) -> Result<usize, usize>
     requires { length words.now ≡ pair_words }
     ensures { result ≡ check_from [] words.now }
 {
     let mut k = 0;
     'pairs: while k < DEFINITION_LIMIT {
-        let c = words[2 * k];
+        let character = words[2 * k];
         let w = words[2 * k + 1];
-        if is_zero_pair(c, w) {
+        if is_zero_pair(character, w) {
             return zero_from(words, k, k + 1);
         }
-        if !is_sound_pair(c, w) {
-            return Checked::FaultAt(k);
+        if !is_sound_pair(character, w) {
+            return Err(k);
         }
-        let mut j = 0;
-        while j < k {
-            if words[2 * j] == c {
+        for j in 0..k {
+            if words[2 * j] == character {
                 break 'pairs;
             }
-            j += 1;
         }
-        if closes_loop(words, k, c, meaning_of(w)) {
-            return Checked::FaultAt(k);
+        let meaning = meaning_of(w);
+        let so_far = Pairs { words, count: k };
+        if closes_loop(&so_far, Definition { character, meaning }) {
+            return Err(k);
         }
         k += 1;
     }
     if k < DEFINITION_LIMIT {
-        Checked::FaultAt(k)
+        Err(k)
     } else {
-        Checked::Sound(DEFINITION_LIMIT)
+        Ok(DEFINITION_LIMIT)
     }
 }
 
@@ -195,32 +158,42 @@ fn check_words(words: &[u32]) -> Checked
 fn is_sound_end(charset: u32, last: u32) -> bool
     ensures { result ≡ is_sound_end charset last }
 {
-    if scalars::is_charset(charset) {
-        return last == 0;
-    }
-    false
+    scalars::is_charset(charset) && last == 0
 }
 
 // The check of the pairs and of the two words behind them, which are at fault as a pair behind all others.
-pub fn and_end(checked: Checked, charset: u32, last: u32) -> Checked
+pub fn and_end(checked: Result<usize, usize>, charset: u32, last: u32) -> Result<usize, usize>
     ensures { result ≡ and_end (is_sound_end charset last) checked }
 {
-    match checked {
-        Checked::FaultAt(pair) => Checked::FaultAt(pair),
-        Checked::Sound(count) => {
-            if is_sound_end(charset, last) {
-                return Checked::Sound(count);
-            }
-            Checked::FaultAt(DEFINITION_LIMIT)
-        }
+    let count = checked?;
+    if is_sound_end(charset, last) {
+        return Ok(count);
     }
+    Err(DEFINITION_LIMIT)
 }
 
-// Which table a lent slice is, or its first pair at fault.
-pub fn check_table(words: &[u32]) -> Checked
+// Which table a lent slice is, how many definitions it has, or its first pair at fault.
+pub fn check_table(words: &[u32]) -> Result<usize, usize>
     requires { table_words ≤ length words.now }
     ensures { result ≡ check_of words.now }
 {
     let pairs = check_words(&words[..PAIR_WORDS]);
     and_end(pairs, words[PAIR_WORDS], words[PAIR_WORDS + 1])
+}
+
+// The table that any lent slice is, or its refusal: too short, or no table by its first pair at fault.
+pub fn lent_table(words: &[u32]) -> Result<Pairs<'_>, Refused>
+    ensures definitions { lent_reply result ≡ lent_table words.now }
+    ensures words { IfOk result (λ pairs. pairs.words.now ≡ words.now) }
+{
+    if words.len() < TABLE_WORDS {
+        return Err(Refusal::ShortSlice.into());
+    }
+    match check_table(words) {
+        Ok(count) => Ok(Pairs { words, count }),
+        Err(place) => Err(Refused {
+            refusal: Refusal::NotTable,
+            place,
+        }),
+    }
 }

@@ -5,9 +5,13 @@ use mathlib.Core.List.{List, [], ◌∷◌}
 use native.Mathlib.Omega.{arith}
 use lib.ListN.{length, drop, get_or}
 use lib.Seq.{drop-drop}
-use lib.Dec.{ltb}
+use lib.Dec.{ltb, leb}
 use lib.Bits.{bit_or}
-use borrow.Author.Tests.{lt-ltb}
+use borrow.Author.Tests.{lt-ltb, ltb-true, ltb-false, le-leb, lt-leb}
+use native.Mathlib.Nat.{add-zero}
+use Rattle.std.specs.List.{fold, position, position_or_len}
+use Rattle.std.specs.Option.{unwrap_or}
+use Rattle.utf8.proofs.Positions.{end_of, first_from, first_within}
 use Rattle.basics.specs.Internal.{bits_with, bits_of}
 use Rattle.basics.proofs.Bits.{or_more, bits_more}
 use Rattle.basics.proofs.Tests.{either, by_cases}
@@ -16,12 +20,35 @@ use Rattle.utf8.specs.Utf8.{after_first, after_further, after_byte, at_end, utf8
 use Rattle.utf8.specs.Internal.{BadWithin, Resumed, ascii_end}
 use Rattle.utf8.specs.declared.Utf8State.{Utf8State}
 use Rattle.utf8.specs.declared.Utf8State.TheVariants.{Between, Inside, Broken}
-use Rattle.utf8.specs.declared.Validity.{Validity}
-use Rattle.utf8.specs.declared.Validity.TheVariants.{Good, BadAt}
+use Rattle.utf8.specs.declared.BadSequence.{BadSequence}
+use Rattle.std.specs.Prelude.{Option, Result, Ok, Err}
 
-pub byte_on : {x : Validity} (line : List ℕ) (i : ℕ) (p q : Utf8State) → utf8_from (drop i line) i p ≡ x → i < length line → q ≡ after_byte p (get_or line i 0) i → utf8_from (drop (i + 1) line) (i + 1) q ≡ x
+pub byte_on : {x : Result Unit BadSequence} (line : List ℕ) (i : ℕ) (p q : Utf8State) → utf8_from (drop i line) i p ≡ x → i < length line → q ≡ after_byte p (get_or line i 0) i → utf8_from (drop (i + 1) line) (i + 1) q ≡ x
 unfolding utf8_from
 byte_on line i p q inv h e = next_element utf8_from line i p inv h (rw e)
+
+-- the bits of a line, as a fold
+pub bits_fold : (bs : List ℕ) (bits : ℕ) → fold bit_or bits bs ≡ bits_with bs bits
+unfolding bits_with
+bits_fold [] bits = refl
+bits_fold (b ∷ bs) bits = bits_fold bs (bit_or bits b)
+
+-- the run of ASCII bytes ends at the first byte that is none, or at the end
+ascii_end_lem : (bs : List ℕ) (i : ℕ) → ascii_end bs i ≡ i + position_or_len (λ b. leb 0x80 b) bs
+unfolding ascii_end
+ascii_end_lem [] i = sym (add-zero i)
+ascii_end_lem (b ∷ bs) i =
+    by_cases (ltb b 0x80)
+    (λ q. rw (q, lt-leb _ _ (ltb-true b 0x80 q)) (omega (arith, ascii_end_lem bs (i + 1))))
+    (λ q. rw (q, le-leb _ _ (ltb-false b 0x80 q)) (sym (add-zero i)))
+
+pub ascii_first : (line : List ℕ) (from n : ℕ) (r : Option ℕ) → from ≤ length line → n ≡ unwrap_or r (length (end_of line from)) → r ≡ position (λ b. leb 0x80 b) (end_of line from)
+    → Resumed line from Between (from + n)
+ascii_first line from n r h is e = record {
+  is = first_from (λ b. leb 0x80 b) line from n r is e ∙ sym (ascii_end_lem (drop from line) from);
+  from = omega arith;
+  within = first_within (λ b. leb 0x80 b) line from n r is e h;
+}
 
 -- between two characters a run of ASCII bytes changes nothing
 ascii_run : (line bs : List ℕ) (i : ℕ) → drop i line ≡ bs → utf8_from (drop (ascii_end bs i) line) (ascii_end bs i) Between ≡ utf8_from bs i Between
@@ -34,7 +61,7 @@ ascii_run line (b ∷ bs) i e =
     (λ q. let stays : ascii_end (b ∷ bs) i ≡ i = rw q in rw stays (ap (λ (l : List ℕ). utf8_from l i Between) e))
 
 -- bytes that have no bit above ASCII between them are UTF-8
-ascii_good_with : (bs : List ℕ) (bits i : ℕ) → bits_with bs bits < 0x80 → Good ≡ utf8_from bs i Between
+ascii_good_with : (bs : List ℕ) (bits i : ℕ) → bits_with bs bits < 0x80 → Ok tt ≡ utf8_from bs i Between
 unfolding bits_with utf8_from after_first
 ascii_good_with [] bits i h = refl
 ascii_good_with (b ∷ bs) bits i h =
@@ -42,10 +69,10 @@ ascii_good_with (b ∷ bs) bits i h =
     rw (lt-ltb b 0x80 small) (ascii_good_with bs (bit_or bits b) (i + 1) h)
 
 -- r is what a call answered of the bits
-pub ascii_good : (line : List ℕ) (r : ℕ) → r ≡ bits_of line → r < 0x80 → Good ≡ utf8 line
+pub ascii_good : (line : List ℕ) (r : ℕ) → r ≡ bits_of line → r < 0x80 → Ok tt ≡ utf8 line
 ascii_good line r e h = ascii_good_with line 0 0 (rw e at h)
 
-pub resumed : {x : Validity} (line : List ℕ) (i : ℕ) (p : Utf8State) (r : ℕ) → Resumed line i p r → utf8_from (drop i line) i p ≡ x → utf8_from (drop r line) r p ≡ x
+pub resumed : {x : Result Unit BadSequence} (line : List ℕ) (i : ℕ) (p : Utf8State) (r : ℕ) → Resumed line i p r → utf8_from (drop i line) i p ≡ x → utf8_from (drop r line) r p ≡ x
 resumed line i Between r h inv = rw h.is (ascii_run line (drop i line) i refl ∙ inv)
 resumed line i (Inside left low high start) r h inv = rw h.is inv
 resumed line i (Broken start) r h inv = rw h.is inv
@@ -60,12 +87,12 @@ byte_within Between b i h = let k : i ≤ i + 1 = omega arith in search (either 
 byte_within (Inside left low high start) b i h = let k : start ≤ i + 1 = omega arith in search (either (λ p. StartWithin p (i + 1)))
 byte_within (Broken start) b i h = omega arith
 
-later_within : (v : Validity) (i n : ℕ) → BadWithin v i → i ≤ n → BadWithin v n
-later_within Good i n h k = tt
-later_within (BadAt p) i n h k = omega arith
+later_within : (v : Result Unit BadSequence) (i n : ℕ) → BadWithin v i → i ≤ n → BadWithin v n
+later_within (Ok u) i n h k = tt
+later_within (Err bad) i n h k = omega arith
 
 pub start_on : (p q : Utf8State) (b i n : ℕ) → StartWithin p i → q ≡ after_byte p b i → i + 1 ≤ n → StartWithin q n
 start_on p q b i n h e k = later_within (at_end q) (i + 1) n (rw e (byte_within p b i h)) k
 
-pub start_end : (p : Utf8State) (i n : ℕ) (r : Validity) → StartWithin p i → i ≤ n → r ≡ at_end p → BadWithin r n
+pub start_end : (p : Utf8State) (i n : ℕ) (r : Result Unit BadSequence) → StartWithin p i → i ≤ n → r ≡ at_end p → BadWithin r n
 start_end p i n r h k e = later_within r i n (rw e h) k

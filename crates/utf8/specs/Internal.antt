@@ -1,15 +1,13 @@
 -- What the code knows beyond the rules: where an answered position lies, and which bytes are passed at once.
-use Rattle.std.specs.Prelude.{ℕ, ◌+◌, ◌≤◌, ◌≡◌, List, [], ◌∷◌, length, drop, ltb}
+use Rattle.std.specs.Prelude.{ℕ, ◌+◌, ◌≤◌, ◌≡◌, List, [], ◌∷◌, length, drop, ltb, Result, IfErr}
 use Rattle.basics.specs.Choice.{pick}
 use Rattle.utf8.specs.declared.Utf8State.{Utf8State}
 use Rattle.utf8.specs.declared.Utf8State.TheVariants.{Between, Inside, Broken}
-use Rattle.utf8.specs.declared.Validity.{Validity}
-use Rattle.utf8.specs.declared.Validity.TheVariants.{Good, BadAt}
+use Rattle.utf8.specs.declared.BadSequence.{BadSequence}
 
 -- the position that is answered lies within so many bytes
-abbrev pub BadWithin : Validity → ℕ → Type 0
-BadWithin Good n = Unit {0}
-BadWithin (BadAt p) n = p ≤ n
+abbrev pub BadWithin : Result Unit BadSequence → ℕ → Type 0
+BadWithin r n = IfErr r (λ bad. bad.start ≤ n)
 
 -- of the bytes that are left, the first of them at i: the position of the first that is not ASCII, or the end
 unfoldable pub ascii_end : List ℕ → ℕ → ℕ

@@ -1,10 +1,9 @@
 -- "Each line must be UTF-8": shortest form, no surrogates, at most U+10FFFF. Bytes are read one at a time.
-use Rattle.std.specs.Prelude.{ℕ, ◌+◌, ◌-◌, ◌&&◌, List, [], ◌∷◌, ltb, leb, eqb}
+use Rattle.std.specs.Prelude.{ℕ, ◌+◌, ◌-◌, ◌&&◌, List, [], ◌∷◌, ltb, leb, eqb, Result, Ok, Err}
 use Rattle.basics.specs.Choice.{pick}
 use Rattle.utf8.specs.declared.Utf8State.{Utf8State}
 use Rattle.utf8.specs.declared.Utf8State.TheVariants.{Between, Inside, Broken}
-use Rattle.utf8.specs.declared.Validity.{Validity}
-use Rattle.utf8.specs.declared.Validity.TheVariants.{Good, BadAt}
+use Rattle.utf8.specs.declared.BadSequence.{BadSequence}
 
 -- after a first byte b at i. E0 and F0 bar what a shorter form could say, ED the surrogates, F4 what lies over U+10FFFF
 unfoldable pub after_first : ℕ → ℕ → Utf8State
@@ -32,15 +31,15 @@ after_byte (Inside left low high start) b i = after_further left low high start 
 after_byte (Broken start) b i = Broken start
 
 -- at the end of the line, where a cut sequence is bad too
-abbrev pub at_end : Utf8State → Validity
-at_end Between = Good
-at_end (Inside left low high start) = BadAt start
-at_end (Broken start) = BadAt start
+abbrev pub at_end : Utf8State → Result Unit BadSequence
+at_end Between = Ok tt
+at_end (Inside left low high start) = Err (record { start = start })
+at_end (Broken start) = Err (record { start = start })
 
 -- the bytes that are left, the first of them at i
-unfoldable pub utf8_from : List ℕ → ℕ → Utf8State → Validity
+unfoldable pub utf8_from : List ℕ → ℕ → Utf8State → Result Unit BadSequence
 utf8_from [] i p = at_end p
 utf8_from (b ∷ bs) i p = utf8_from bs (i + 1) (after_byte p b i)
 
-abbrev pub utf8 : List ℕ → Validity
+abbrev pub utf8 : List ℕ → Result Unit BadSequence
 utf8 line = utf8_from line 0 Between

@@ -20,16 +20,28 @@ pub enum Utf8State {
     Broken(usize),
 }
 
-// A line as UTF-8: good, or where its first bad sequence begins.
+// A line that is no UTF-8: where its first bad sequence begins.
 #[derive(Clone, Copy)]
-pub enum Validity {
-    Good,
-    BadAt(usize),
+pub struct BadSequence {
+    pub start: usize,
 }
 
-fn inside(left: u8, low: u8, high: u8, start: usize) -> Utf8State
-    ensures { result ≡ Utf8State.Inside left low high start }
+// After the first byte `b` of a character, which stands at `start`.
+#[tactic(auto, using(basics::proofs::Tests::tests), unfolding(crate::specs::Utf8::after_first))]
+fn after_first(b: u8, start: usize) -> Utf8State
+    ensures { result ≡ after_first b start }
 {
+    let (left, low, high) = match b {
+        0x00..=0x7F => return Utf8State::Between,
+        0xC2..=0xDF => (1, 0x80, 0xBF),
+        0xE0 => (2, 0xA0, 0xBF),
+        0xED => (2, 0x80, 0x9F),
+        0xE1..=0xEF => (2, 0x80, 0xBF),
+        0xF0 => (3, 0x90, 0xBF),
+        0xF1..=0xF3 => (3, 0x80, 0xBF),
+        0xF4 => (3, 0x80, 0x8F),
+        _ => return Utf8State::Broken(start),
+    };
     Utf8State::Inside {
         left,
         low,
@@ -38,54 +50,23 @@ fn inside(left: u8, low: u8, high: u8, start: usize) -> Utf8State
     }
 }
 
-// After the first byte `b` of a character, which stands at `i`.
-fn after_first(b: u8, i: usize) -> Utf8State
-    ensures { result ≡ after_first b i }
-{
-    if b < 0x80 {
-        return Utf8State::Between;
-    }
-    if b < 0xC2 {
-        return Utf8State::Broken(i);
-    }
-    if b < 0xE0 {
-        return inside(1, 0x80, 0xBF, i);
-    }
-    if b == 0xE0 {
-        return inside(2, 0xA0, 0xBF, i);
-    }
-    if b == 0xED {
-        return inside(2, 0x80, 0x9F, i);
-    }
-    if b < 0xF0 {
-        return inside(2, 0x80, 0xBF, i);
-    }
-    if b == 0xF0 {
-        return inside(3, 0x90, 0xBF, i);
-    }
-    if b < 0xF4 {
-        return inside(3, 0x80, 0xBF, i);
-    }
-    if b == 0xF4 {
-        return inside(3, 0x80, 0x8F, i);
-    }
-    Utf8State::Broken(i)
-}
-
 // After a further byte `b` of a character.
+#[tactic(auto, using(basics::proofs::Tests::tests), unfolding(crate::specs::Utf8::after_further))]
 fn after_further(left: u8, low: u8, high: u8, start: usize, b: u8) -> Utf8State
     ensures { result ≡ after_further left low high start b }
 {
-    if b < low {
-        return Utf8State::Broken(start);
-    }
-    if high < b {
+    if b < low || high < b {
         return Utf8State::Broken(start);
     }
     if left <= 1 {
         return Utf8State::Between;
     }
-    inside(left - 1, 0x80, 0xBF, start)
+    Utf8State::Inside {
+        left: left - 1,
+        low: 0x80,
+        high: 0xBF,
+        start,
+    }
 }
 
 // After the byte `b` at `i`.
@@ -105,18 +86,12 @@ fn after_byte(p: Utf8State, b: u8, i: usize) -> Utf8State
 }
 
 // At the line's end, where a cut sequence is bad too.
-fn at_end(p: Utf8State) -> Validity
+fn at_end(p: Utf8State) -> Result<(), BadSequence>
     ensures { result ≡ at_end p }
 {
     match p {
-        Utf8State::Between => Validity::Good,
-        Utf8State::Inside {
-            left: _,
-            low: _,
-            high: _,
-            start,
-        } => Validity::BadAt(start),
-        Utf8State::Broken(start) => Validity::BadAt(start),
+        Utf8State::Between => Ok(()),
+        Utf8State::Inside { start, .. } | Utf8State::Broken(start) => Err(BadSequence { start }),
     }
 }
 
@@ -125,14 +100,8 @@ fn after_ascii(line: &[u8], from: usize) -> usize
     requires { from ≤ length line.now }
     ensures { Resumed line.now from Utf8State.Between result }
 {
-    let mut i = from;
-    while i < line.len() {
-        if 0x80 <= line[i] {
-            return i;
-        }
-        i += 1;
-    }
-    i
+    let rest = &line[from..];
+    from + rest.iter().position(|b| 0x80 <= *b).unwrap_or(rest.len())
 }
 
 // Where the reading goes on that stands at `at`: between two characters, behind the ASCII bytes, which need no state.
@@ -142,40 +111,31 @@ fn resume(line: &[u8], at: usize, p: Utf8State) -> usize
 {
     match p {
         Utf8State::Between => after_ascii(line, at),
-        Utf8State::Inside {
-            left: _,
-            low: _,
-            high: _,
-            start: _,
-        } => at,
-        Utf8State::Broken(_) => at,
+        Utf8State::Inside { .. } | Utf8State::Broken(_) => at,
     }
 }
 
-// The bits that the bytes of a line have between them, below 0x80 if all are ASCII. The loop leaves only at its end, so
+// The bits that the bytes of a line have between them, below 0x80 if all are ASCII. It goes to the line's end at once, so
 // that it is compiled to take several bytes at a time.
+#[tactic(auto, using(crate::proofs::Utf8::bits_fold))]
 fn bits_of(line: &[u8]) -> u8
     ensures { result ≡ bits_of line.now }
 {
-    let mut bits = 0;
-    let mut i = 0;
-    while i < line.len() {
-        bits = bits | line[i];
-        i += 1;
-    }
-    bits
+    line.iter().fold(0, |bits, b| bits | *b)
 }
 
 // Whether all of `line` is UTF-8; if not, where the first bad sequence begins.
-pub fn check_utf8(line: &[u8]) -> Validity
+pub fn check_utf8(line: &[u8]) -> Result<(), BadSequence>
     ensures value { result ≡ utf8 line.now }
     ensures bad_within { BadWithin result (length line.now) }
 {
     if bits_of(line) < 0x80 {
-        return Validity::Good;
+        return Ok(());
     }
     let mut p = Utf8State::Between;
     let mut i = after_ascii(line, 0);
+
+    // No `for`: the position jumps over each run of ASCII bytes, which is faster than a byte at a time.
     while i < line.len() {
         p = after_byte(p, line[i], i);
         i = resume(line, i + 1, p);

@@ -1,15 +1,18 @@
 -- The digits of a number and the dots of a cell, as loops come to them.
-use Prim.Native.Nat.{ℕ, zero, suc, ◌+◌, ◌-◌, ◌/◌, ◌%◌, ◌≤◌, ◌<◌}
+use Prim.Native.Nat.{ℕ, zero, suc, ◌+◌, ◌-◌, ◌*◌, ◌/◌, ◌%◌, ◌^◌, ◌≤◌, ◌<◌}
 use mathlib.Core.Path.{◌≡◌, refl, sym, ◌∙◌}
 use mathlib.Core.Bool.{Bool, true, ◌&&◌}
-use mathlib.Core.List.{List, [], ◌∷◌, ◌++◌, append-nil}
-use native.Mathlib.Nat.{add-zero}
+use mathlib.Core.List.{List, [], ◌∷◌, ◌++◌, append-nil, map}
+use native.Mathlib.Nat.{add-zero, div-one}
 use native.Mathlib.Numerals.{add-one}
 use native.Mathlib.Omega.{arith}
 use lib.Count.{ones_in, ones}
 use lib.Dec.{eqb, leb}
-use lib.ListN.{length, take, drop, set, length-append}
-use lib.Seq.{append_snoc, drop-cons, lt-length-set, get_or-set_same, drop-set-lt, take-set-le, take-suc-set}
+use lib.ListN.{length, take, get_or, set, length-append}
+use Rattle.std.specs.List.{range_with_len}
+use Rattle.std.proofs.lemmas.Nat.{shr-shr}
+use Rattle.std.proofs.lemmas.List.FromFn.{fill_by_all}
+use lib.Seq.{append_snoc, take-set-le, take-suc-set}
 use borrow.Author.Tests.{eqb-true, eqb-false, eq-eqb, ne_eqb, leb-true}
 use Rattle.basics.specs.Choice.{pick}
 use Rattle.basics.proofs.Tests.{by_cases, both, all_below, below}
@@ -20,39 +23,32 @@ unfolding hex_digits
 digits_length zero n = refl
 digits_length (suc k) n = omega (arith, length-append (hex_digits k (n / 16)) (hex_digit (n % 16) ∷ []), digits_length k (n / 16))
 
--- digits from the last on: x is all of them, the first i of which are still to be found
-module _ (x ds : List ℕ) where
-  pub digits_more : (i n : ℕ) {d : ℕ} → hex_digits i n ++ drop i ds ≡ x → 0 < i → i ≤ 8 → length ds ≡ 8 → d ≡ hex_digit (n % 16) → hex_digits (i - 1) (n / 16) ++ drop (i - 1) (set ds (i - 1) d) ≡ x
-  unfolding hex_digits
-  digits_more zero n inv h l size e = absurd (omega arith)
-  digits_more (suc k) n {d} inv h l size e =
-      let inside : k < length ds = omega arith in
-      let one : suc k - 1 ≡ k = omega arith in
-      let found = drop-cons (set ds k d) k 0 (lt-length-set ds k d inside) in
-      rw (one, found, get_or-set_same ds k d 0 inside, drop-set-lt (suc k) ds k d (omega arith), e) (sym (append_snoc (hex_digits k (n / 16)) (hex_digit (n % 16)) (drop (suc k) ds)) ∙ inv)
+-- the eight hex digits of n, each by its place
+abbrev pub nth_digit : ℕ → ℕ → ℕ
+nth_digit n k = hex_digit (n / 2 ^ (28 - 4 * k) % 16)
 
-  pub digits_all : (i n : ℕ) → hex_digits i n ++ drop i ds ≡ x → i ≤ 0 → ds ≡ x
-  unfolding hex_digits
-  digits_all zero n inv h = inv
-  digits_all (suc i) n inv h = absurd (omega arith)
+digits_written : (n : ℕ) → map (nth_digit n) (range_with_len 0 8) ≡ hex_digits 8 n
+unfolding hex_digits
+digits_written n = simp (shr-shr n 4 4, shr-shr n 8 4, shr-shr n 12 4, shr-shr n 16 4, shr-shr n 20 4, shr-shr n 24 4, div-one n)
 
--- dots from the first on: x is the digits of all that are raised, those before dot i found and counted
-module _ (x ds : List ℕ) (count i cell : ℕ) (inv : take count ds ++ raised_from (8 - i) (49 + i) cell ≡ x) where
-  pub raised_more : i < 8 → count ≤ i → length ds ≡ 8 → take (count + cell % 2) (set ds count (49 + i)) ++ raised_from (8 - (i + 1)) (49 + (i + 1)) (cell / 2) ≡ x
+pub digits_all : (ds : List ℕ) (n : ℕ) → length ds ≡ 8 → ((k : ℕ) → k < 8 → get_or ds k 0 ≡ nth_digit n k) → ds ≡ hex_digits 8 n
+digits_all ds n size each = fill_by_all (nth_digit n) ds 8 0 size each ∙ digits_written n
+
+-- dots from the first on: x is the digits of all that are raised, those before a digit found and counted
+module _ (x ds : List ℕ) (count digit cell : ℕ) (inv : take count ds ++ raised_from (57 - digit) digit cell ≡ x) where
+  pub raised_more : digit < 57 → count + 49 ≤ digit → length ds ≡ 8 → take (count + cell % 2) (set ds count digit) ++ raised_from (57 - (digit + 1)) (digit + 1) (cell / 2) ≡ x
   unfolding raised_from
   raised_more h l size =
-      let left : 8 - i ≡ suc (8 - (i + 1)) = omega arith in
-      let digit : 49 + (i + 1) ≡ 49 + i + 1 = omega arith in
+      let left : 57 - digit ≡ suc (57 - (digit + 1)) = omega arith in
       let all = rw left at inv in
-      rw digit
-      (by_cases (eqb (cell % 2) 1)
-      (λ e. rw (eqb-true (cell % 2) 1 e, add-one count, take-suc-set ds count (49 + i) (omega arith)) (append_snoc (take count ds) (49 + i) _ ∙ rw e at all))
-      (λ e. let none : cell % 2 ≡ 0 = omega (arith, eqb-false (cell % 2) 1 e) in rw (none, add-zero count, take-set-le count ds count (49 + i) (omega arith)) (rw e at all)))
+      by_cases (eqb (cell % 2) 1)
+      (λ e. rw (eqb-true (cell % 2) 1 e, add-one count, take-suc-set ds count digit (omega arith)) (append_snoc (take count ds) digit _ ∙ rw e at all))
+      (λ e. let none : cell % 2 ≡ 0 = omega (arith, eqb-false (cell % 2) 1 e) in rw (none, add-zero count, take-set-le count ds count digit (omega arith)) (rw e at all))
 
-  pub raised_all : i ≤ 8 → 8 ≤ i → take count ds ≡ x
+  pub raised_all : 57 ≤ digit → take count ds ≡ x
   unfolding raised_from
-  raised_all h l =
-      let none : 8 - i ≡ 0 = omega arith in
+  raised_all l =
+      let none : 57 - digit ≡ 0 = omega arith in
       sym (append-nil (take count ds)) ∙ rw none at inv
 
 -- how many digits dots take: one test, computed for all cells
@@ -80,3 +76,5 @@ module _ (n : ℕ) (h : n < 256) where
 
   pub ones_few : (n ≡ 0 → ⊥) → ones n ≤ 8
   ones_few e = omega (arith, dots_counted e, dots_few)
+
+pub ruleset counted_dots = (no_dots_counted, dots_counted, ones_few)

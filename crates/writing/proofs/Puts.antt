@@ -1,12 +1,12 @@
 -- Texts put one behind another are one text.
-use Prim.Native.Nat.{ℕ, suc, ◌+◌, ◌≤◌, ◌<◌}
-use mathlib.Core.Path.{◌≡◌, sym, ◌∙◌}
-use mathlib.Core.List.{List, [], ◌∷◌, ◌++◌}
+use Prim.Native.Nat.{ℕ, suc, ◌+◌, ◌-◌, ◌≤◌}
+use mathlib.Core.Path.{◌≡◌, refl, sym, ◌∙◌}
+use mathlib.Core.List.{List, [], ◌∷◌, ◌++◌, append_assoc}
 use native.Mathlib.Nat.{add-zero, zero-add}
-use native.Mathlib.Numerals.{add-one}
 use native.Mathlib.Omega.{arith}
-use lib.ListN.{length, get_or, drop, set, length-append, drop_of_length-le}
-use lib.Seq.{drop-cons, sets, length-sets, sets-eq}
+use lib.ListN.{length, take, drop, set, length-append}
+use lib.Seq.{drop-drop, sets, length-sets, sets-eq}
+use borrow.Rule.Slice.PartMut.{put_mid}
 use Rattle.basics.specs.Buffers.{over}
 use Rattle.writing.specs.Writing.{Put}
 
@@ -39,12 +39,8 @@ fits_first s t at n h = omega (arith, length-append s t)
 pub put_front : (text old : List ℕ) → length text ≤ length old → sets old 0 text ≡ over text old
 put_front text old h = rw (zero-add (length text)) at (sets-eq text old 0 (omega arith))
 
--- a loop that copies a text: what is left of it completes the whole
-module _ (old : List ℕ) (at : ℕ) (text : List ℕ) (i : ℕ) (buffer : List ℕ) (inv : sets buffer (at + i) (drop i text) ≡ sets old at text) where
-  pub copied_more : i < length text → sets (set buffer (at + i) (get_or text i 0)) (at + (i + 1)) (drop (i + 1) text) ≡ sets old at text
-  copied_more h =
-      let e : at + (i + 1) ≡ suc (at + i) = omega arith in
-      rw (e, add-one i) (rw (drop-cons text i 0 h) at inv)
-
-  pub copied_all : i ≤ length text → length text ≤ i → Put old at text (at + i) buffer
-  copied_all g h = record { bytes = rw (drop_of_length-le text {i = i} h) at inv; after = omega arith }
+-- a text copied into the part of a buffer that it has room in
+pub copied : (old text part : List ℕ) (at : ℕ) → at + length text ≤ length old → part ≡ text → Put old at text (at + length text) (put_mid at (at + length text - at) old part)
+copied old text part at h e =
+    let room : at + length text - at ≡ length text = omega arith in
+    record { bytes = rw (e, room, sets-eq text old at h, drop-drop (length text) at old) (sym (append_assoc (take at old) text (drop (at + length text) old))); after = refl }

@@ -1,14 +1,33 @@
 // Numbers and cells as text, and texts put into a lent buffer, each at a place; the answer is the place behind it.
 #![tactic(auto)]
 
-ghost use Rattle.std.specs.Prelude.{◌≡◌, [], ◌∷◌, ◌+◌, ◌≤◌, ◌%◌, length, take};
+ghost use Rattle.std.specs.Prelude.{◌≡◌, ℕ, List, [], ◌∷◌, ◌+◌, ◌≤◌, ◌%◌, length, take};
 ghost use Rattle.writing.specs.Writing.{hex_digit, hex_digits, raised_from, dots_text, Put};
 
-// The first `count` of the bytes.
-#[derive(Clone, Copy)]
+use std::marker::Model;
+
+// A text of eight digits at most: in contracts, the list of them.
+#[derive(Drop)]
 pub struct Digits {
-    pub bytes: [u8; 8],
-    pub count: usize,
+    bytes: [u8; 8],
+    count: usize,
+}
+
+impl Model for Digits {
+    ghost Value = { List ℕ };
+
+    ghost view = { λ digits. take digits.count digits.bytes };
+
+    ghost invariant = { λ digits. digits.count ≤ 8 };
+}
+
+impl Digits {
+    // The digits as bytes.
+    pub fn as_slice(&self) -> &[u8]
+        ensures { result.now ≡ self.now }
+    {
+        &self.bytes[..self.count]
+    }
 }
 
 // Puts one byte.
@@ -21,64 +40,58 @@ pub fn put_byte(buffer: &mut [u8], at: usize, b: u8) -> usize
 }
 
 // Puts a text.
+#[tactic(auto, using(crate::proofs::Puts::copied))]
 pub fn put_bytes(buffer: &mut [u8], at: usize, text: &[u8]) -> usize
     requires { at + length text.now ≤ length buffer.old }
     ensures { Put buffer.old at text.now result buffer.new }
 {
-    let mut i = 0;
-    while i < text.len() {
-        buffer[at + i] = text[i];
-        i += 1;
-    }
-    at + i
+    let end = at + text.len();
+    buffer[at..end].copy_from_slice(text);
+    end
 }
 
-// The last hex digit of a number; ten is `a`, byte 97.
+// The last hex digit of a number, in lower case.
+#[tactic(auto, using(basics::proofs::Tests::tests), unfolding(crate::specs::Writing::hex_digit))]
 fn hex_digit(n: u32) -> u8
     ensures { result ≡ hex_digit (n % 16) }
 {
-    let d = (n % 16) as u8;
-    if d < 10 {
-        return b'0' + d;
+    match (n % 16) as u8 {
+        d @ 0..=9 => b'0' + d,
+        d => b'a' - 10 + d,
     }
-    87 + d
 }
 
-// The eight hex digits of a number, found from the last on.
+// The eight hex digits of a number, each from its four bits.
+#[tactic(auto, using(crate::proofs::Numerals::digits_all))]
 pub fn hex_digits(n: u32) -> [u8; 8]
     ensures { result ≡ hex_digits 8 n }
 {
     let mut digits = [0u8; 8];
-    let mut left = n;
-    let mut i = 8;
-    while 0 < i {
-        i -= 1;
-        digits[i] = hex_digit(left);
-        left /= 16;
+    for (i, digit) in digits.iter_mut().enumerate() {
+        *digit = hex_digit(n >> (28 - 4 * i));
     }
     digits
 }
 
 // The digits of the raised dots. Each digit is written, and the next one takes its place where its dot is not raised.
 fn raised_digits(cell: u8) -> Digits
-    ensures { (take result.count result.bytes ≡ raised_from 8 49 cell) × (result.count ≤ length result.bytes) }
+    ensures { result ≡ raised_from 8 49 cell }
 {
     let mut bytes = [0u8; 8];
     let mut count = 0;
     let mut left = cell;
-    let mut i = 0u8;
-    while i < 8 {
-        bytes[count] = b'1' + i;
-        count += (left % 2) as usize;
+    for digit in b'1'..=b'8' {
+        bytes[count] = digit;
+        count += usize::from(left % 2);
         left /= 2;
-        i += 1;
     }
     Digits { bytes, count }
 }
 
 // The dots of a cell, rising; `0` where none is raised.
+#[tactic(auto, using(basics::proofs::Tests::tests), unfolding(crate::specs::Writing::dots_text))]
 pub fn dots_digits(cell: u8) -> Digits
-    ensures { (take result.count result.bytes ≡ dots_text cell) × (result.count ≤ length result.bytes) }
+    ensures { result ≡ dots_text cell }
 {
     if cell == 0 {
         return Digits {
@@ -90,11 +103,12 @@ pub fn dots_digits(cell: u8) -> Digits
 }
 
 // How many digits the dots of a cell take.
+#[tactic(auto, using(crate::proofs::Numerals::counted_dots))]
 pub fn dots_length(cell: u8) -> usize
     ensures { (result ≡ length (dots_text cell)) × (result ≤ 8) }
 {
     if cell == 0 {
         return 1;
     }
-    u8::count_ones(cell) as usize
+    cell.count_ones() as usize
 }

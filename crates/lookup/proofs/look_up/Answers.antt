@@ -20,8 +20,8 @@ returns-then-is_scalar-clause-answer c = search (look_sound, chosen, by_last)
 pub returns-then-is_scalar-clause-links : goal.returns-then-is_scalar-clause-links
 returns-then-is_scalar-clause-links c = search (lent_links, look_sound, chosen, by_last)
 
-pub returns-in-FaultAt : goal.returns-in-FaultAt
-returns-in-FaultAt c = let e = look_refused _ _ (search lent_fault) in record { answer = e; links = lent_links _ _ e }
+pub returns-in-Err : goal.returns-in-Err
+returns-in-Err c = let e = look_refused _ _ (search lent_fault) in record { answer = e; links = lent_links _ _ e }
 
 pub returns-else-is_scalar-clause-answer : goal.returns-else-is_scalar-clause-answer
 returns-else-is_scalar-clause-answer c = search (look_sound, chosen)

@@ -25,14 +25,14 @@ pub fill-requires : goal.fill-requires
 unfolding page_plan
 fill-requires c = (search lent_fits, search rules, search rules)
 
-pub returns-in-FaultAt : goal.returns-in-FaultAt
+pub returns-in-Err : goal.returns-in-Err
 unfolding page_plan
-returns-in-FaultAt c = search page_fault
+returns-in-Err c = search page_fault
 
-pub returns-in-At : goal.returns-in-At
+pub returns-in-Some : goal.returns-in-Some
 unfolding page_plan
-returns-in-At c = search page_no_scalar
+returns-in-Some c = search page_no_scalar
 
-pub returns-in-Nowhere : goal.returns-in-Nowhere
+pub returns-in-None : goal.returns-in-None
 unfolding page_plan
-returns-in-Nowhere c = search page_filled
+returns-in-None c = search page_filled

@@ -1,20 +1,20 @@
-use borrow.Author.Rules.{rules}
-use mathlib.Core.Path.{refl}
 use Rattle.basics.proofs.Tests.{tests}
-use Rattle.scalars.proofs.Charsets.{byte_row, no_byte_row}
+use Rattle.scalars.specs.Characters.{byte_by}
+use Rattle.scalars.proofs.Rows.{next_row, rows_over}
 use Rattle.scalars.proofs.byte_by.Goals as goal
 
-pub loop-i-init : goal.loop-i-init
-loop-i-init c = (search rules, refl, refl)
+pub returns-then-character-c : goal.returns-then-character-c
+unfolding byte_by
+returns-then-character-c c = next_row (λ l. byte_by l c.args.c) c.args.rows.now c.loop-byte.byte-index (0, 0) c.loop-byte.invariant c.loop-byte-test.true (search tests)
 
-pub returns-then-rows-i : goal.returns-then-rows-i
-returns-then-rows-i c = search (byte_row, tests)
+pub returns-then-from-c : goal.returns-then-from-c
+unfolding byte_by
+returns-then-from-c c = next_row (λ l. byte_by l c.args.c) c.args.rows.now c.loop-byte.byte-index (0, 0) c.loop-byte.invariant c.loop-byte-test.true (let here = rw c.from.ensures at c.if-from-c.true in search tests)
 
-pub returns-then-rows-i-2 : goal.returns-then-rows-i-2
-returns-then-rows-i-2 c = search (byte_row, tests)
-
-pub loop-i-preserved : goal.loop-i-preserved
-loop-i-preserved c = (search rules, refl, search (byte_row, tests))
+pub loop-byte-preserved : goal.loop-byte-preserved
+unfolding byte_by
+loop-byte-preserved c = next_row (λ l. byte_by l c.args.c) c.args.rows.now c.loop-byte.byte-index (0, 0) c.loop-byte.invariant c.loop-byte-test.true (let other = rw c.from.ensures at c.if-from-c.false in search (tests, other, c.if-character-c.false))
 
 pub returns : goal.returns
-returns c = search no_byte_row
+unfolding byte_by
+returns c = rows_over (λ l. byte_by l c.args.c) c.args.rows.now c.loop-byte.byte-index (0, 0) c.loop-byte.invariant c.loop-byte-test.false c.as_byte.ensures

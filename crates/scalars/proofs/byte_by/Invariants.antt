@@ -1,12 +1,7 @@
-use mathlib.Core.Path.{◌≡◌}
-use Prim.Native.Nat.{◌-◌, ◌*◌, ◌/◌, ◌≤◌}
-use lib.ListN.{length, drop}
+use Rattle.std.proofs.Common.{◌≡◌, drop}
 use Rattle.scalars.specs.Characters.{byte_by}
 use Rattle.scalars.proofs.byte_by.Given as goal
 
--- what the rows from i on say is what all say
-abbrev pub invariant-loop-i : goal.invariant-loop-i
-invariant-loop-i l = (l.i ≤ l.n) × (l.n ≡ length l.rows / 2) × (byte_by (drop (2 * l.i) l.rows) l.c ≡ byte_by l.rows l.c)
-
-abbrev pub decreases-loop-i : goal.decreases-loop-i
-decreases-loop-i l = l.n - l.i
+-- what the rows from here on say is what all say
+abbrev pub invariant-loop-byte : goal.invariant-loop-byte
+invariant-loop-byte l = byte_by (drop l.byte-index l.rows) l.c ≡ byte_by l.rows l.c

@@ -1,18 +1,18 @@
-use borrow.Author.Rules.{rules}
-use mathlib.Core.Path.{refl}
+use Rattle.std.proofs.Common.{refl}
 use Rattle.basics.proofs.Tests.{tests}
+use Rattle.scalars.specs.Characters.{stands_for}
 use Rattle.scalars.proofs.Rows.{next_row, rows_over}
 use Rattle.scalars.proofs.stands_for.Goals as goal
-use Rattle.scalars.proofs.stands_for.Goals.{then-rows-i+else-c-rows, else-rows-i}
+use Rattle.scalars.proofs.stands_for.Goals.{else-first-c-via-then-first-c+else-c-last, else-first-c-via-else-first-c}
 
-pub loop-i-init : goal.loop-i-init
-loop-i-init c = (search rules, refl, refl)
+pub returns-then-c-last : goal.returns-then-c-last
+unfolding stands_for
+returns-then-c-last c = next_row (λ l. stands_for l c.args.c) c.args.rows.now c.loop-first.first-index (0, 0, 0) c.loop-first.invariant c.loop-first-test.true (search tests)
 
-pub returns-then-c-rows : goal.returns-then-c-rows
-returns-then-c-rows c = search (next_row, tests)
-
-pub loop-i-preserved : goal.loop-i-preserved
-loop-i-preserved c = (search rules, refl, elim c.if-rows-i.branch [ then-rows-i+else-c-rows w ↦ search (next_row, tests) | else-rows-i w ↦ search (next_row, tests) ])
+pub loop-first-preserved : goal.loop-first-preserved
+unfolding stands_for
+loop-first-preserved c = next_row (λ l. stands_for l c.args.c) c.args.rows.now c.loop-first.first-index (0, 0, 0) c.loop-first.invariant c.loop-first-test.true (elim c.else-first-c.branch [ else-first-c-via-then-first-c+else-c-last w ↦ search tests | else-first-c-via-else-first-c w ↦ search tests ])
 
 pub returns : goal.returns
-returns c = search rows_over
+unfolding stands_for
+returns c = rows_over (λ l. stands_for l c.args.c) c.args.rows.now c.loop-first.first-index (0, 0, 0) c.loop-first.invariant c.loop-first-test.false refl

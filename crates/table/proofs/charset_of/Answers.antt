@@ -1,4 +1,4 @@
-use Rattle.pairs.proofs.Pairs.{few_words}
+use Rattle.pairs.proofs.Scan.{few_words}
 use Rattle.table.proofs.charset_of.Goals as goal
 
 pub returns-then-words-le-PAIR_WORDS : goal.returns-then-words-le-PAIR_WORDS

@@ -2,7 +2,7 @@ use borrow.Author.Rules.{rules}
 use native.Mathlib.Omega.{arith}
 use Rattle.basics.proofs.Tests.{chosen}
 use borrow.Author.Tests.{not-true, not-false}
-use Rattle.pairs.proofs.Pairs.{rest_all, scan_later}
+use Rattle.pairs.proofs.Scan.{rest_all, scan_later}
 use Rattle.table.proofs.Check.{check_start, check_next, check_repeat, check_none, check_over}
 use Rattle.table.proofs.check_words.Goals as goal
 use Rattle.table.proofs.check_words.Goals.{else-pairs-test, then-pairs-test+else-is_zero_pair+else-not-is_sound_pair+then-loop-j-test+then-words-j}

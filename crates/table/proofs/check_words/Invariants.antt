@@ -6,7 +6,7 @@ use Rattle.definitions.specs.Definitions.{find}
 use Rattle.definitions.specs.Effects.{definition_limit}
 use Rattle.pairs.specs.Words.{pair_words, definition_of, definitions}
 use Rattle.table.specs.Check.{check_from}
-use Rattle.pairs.proofs.Pairs.{rest}
+use Rattle.pairs.proofs.Scan.{rest}
 use Rattle.table.proofs.Check.{if_fresh}
 use Rattle.table.proofs.check_words.Given as goal
 

@@ -1,13 +1,6 @@
-use Prim.Native.Nat.{◌≤◌}
-use mathlib.Core.Path.{◌≡◌}
-use mathlib.Core.List.{◌++◌}
-use lib.ListN.{length, drop}
-use Rattle.writing.specs.Writing.{hex_digits}
+use Rattle.std.proofs.Common.{◌≡◌, ℕ, ◌<◌, length, get_or}
+use Rattle.writing.proofs.Numerals.{nth_digit}
 use Rattle.writing.proofs.hex_digits.Given as goal
 
--- the digits from i on are found, those of what is left stand before them
 abbrev pub invariant-loop-i : goal.invariant-loop-i
-invariant-loop-i l = (l.i ≤ 8) × (length l.digits ≡ 8) × (hex_digits l.i l.left ++ drop l.i l.digits ≡ hex_digits 8 l.n)
-
-abbrev pub decreases-loop-i : goal.decreases-loop-i
-decreases-loop-i l = l.i
+invariant-loop-i l = (length l.digit-items ≡ 8) × ((k : ℕ) → k < l.i → get_or l.digit-items k 0 ≡ nth_digit l.n k)

@@ -1,4 +1,5 @@
 -- The definitions of the words by position, as a scan by index meets them.
+use Rattle.std.specs.Prelude.{Option, None, Some}
 use Prim.Native.Nat.{ℕ, zero, suc, ◌+◌, ◌*◌, ◌-◌, ◌≤◌, ◌<◌}
 use mathlib.Core.Path.{◌≡◌, refl, sym, ap, ◌∙◌}
 use mathlib.Core.List.{List, [], ◌∷◌, ◌++◌}
@@ -10,8 +11,6 @@ use borrow.Author.Tests.{eq-eqb, ne_eqb}
 use Rattle.basics.proofs.Loops.{two_more}
 use Rattle.definitions.specs.declared.Meaning.{Meaning}
 use Rattle.definitions.specs.declared.Definition.{Definition}
-use Rattle.definitions.specs.declared.Found.{Found}
-use Rattle.definitions.specs.declared.Found.TheVariants.{Undefined, Is}
 use Rattle.definitions.specs.Definitions.{find}
 use Rattle.pairs.specs.Words.{pair_words, charset_of, meaning_of, definition_of, definitions}
 
@@ -67,8 +66,8 @@ split n ws (suc i) h l =
     ∙ rw (rest_more n i ws (omega arith) l, ← add-one i, definitions_more i ws (omega arith)) (sym (append_snoc (definitions i ws) d (rest n (i + 1) ws)))
 
 -- a scan for c that has come to pair i of n; x is what it is to answer
-module _ (x : Found) (n i : ℕ) (ws : List ℕ) (c : ℕ) (inv : x ≡ find (rest n i ws) c) where
-  pub scan_here : {m : Meaning} → i < n → 2 * n ≤ length ws → get_or ws (2 * i) 0 ≡ c → m ≡ meaning_of (get_or ws (2 * i + 1) 0) → Is m ≡ x
+module _ (x : Option Meaning) (n i : ℕ) (ws : List ℕ) (c : ℕ) (inv : x ≡ find (rest n i ws) c) where
+  pub scan_here : {m : Meaning} → i < n → 2 * n ≤ length ws → get_or ws (2 * i) 0 ≡ c → m ≡ meaning_of (get_or ws (2 * i + 1) 0) → Some m ≡ x
   unfolding find
   scan_here h l e p = sym (inv ∙ rw (rest_more n i ws h l, eq-eqb _ c e, p))
 
@@ -76,7 +75,7 @@ module _ (x : Found) (n i : ℕ) (ws : List ℕ) (c : ℕ) (inv : x ≡ find (re
   unfolding find
   scan_later h l e = inv ∙ rw (rest_more n i ws h l, ne_eqb _ c e)
 
-  pub scan_none : n ≤ i → Undefined ≡ x
+  pub scan_none : n ≤ i → None ≡ x
   unfolding find
   scan_none h = sym (inv ∙ rw (rest_none n i ws h))
 
