@@ -1,4 +1,4 @@
-// The fields of a case, which a mark separates, and what they stand for: a text, a number, words of a table, windows.
+// The fields of a case, which a mark separates, and what they stand for: a text, a number, several numbers.
 #![tactic(auto)]
 
 ghost use Rattle.std.specs.Prelude.{◌≤◌, ◌<◌, length, IfSome};
@@ -132,15 +132,34 @@ pub fn put_numbers(out: &mut [u32], field: &[u8]) -> usize {
     place
 }
 
+// The numbers of a field, the first `count` of them.
+#[derive(Clone, Copy)]
+pub struct Numbers<const N: usize> {
+    pub all: [u32; N],
+    pub count: usize,
+    ghost within: { count ≤ N },
+}
+
+impl<const N: usize> Numbers<N> {
+    // None where a field has more than `N`.
+    pub fn read(field: &[u8]) -> Option<Numbers<N>> {
+        let mut all = [0; N];
+        let count = put_numbers(&mut all, field);
+        if N < count {
+            return None;
+        }
+        Some(Numbers { all, count })
+    }
+
+    pub fn as_slice(&self) -> &[u32] {
+        &self.all[..self.count]
+    }
+}
+
 // A start or a width: a number from 2^31 on stands for the one that is as far below 2^64 as it is below 2^32.
-fn window_number(n: u32) -> usize {
+pub fn window_number(n: u32) -> usize {
     match n {
         0..0x8000_0000 => n as usize,
         _ => 0xFFFF_FFFF_0000_0000 + n as usize,
     }
-}
-
-// The starts and widths of windows.
-pub fn windows_of(numbers: [u32; 12]) -> [usize; 12] {
-    numbers.map(window_number)
 }

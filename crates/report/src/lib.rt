@@ -5,7 +5,7 @@ ghost use Rattle.std.specs.Prelude.{◌≡◌, ℕ, List, [], ◌++◌, ◌+◌,
 ghost use Rattle.lines.specs.Texts.{compiled_reply};
 ghost use Rattle.report.specs.Report.{Held, decimal, report_of, line_of};
 
-use lines::Compiled;
+use lines::Rejection;
 use std::marker::Model;
 
 // A line in fixed memory: the first `length` of the bytes.
@@ -66,25 +66,21 @@ impl Line {
 }
 
 // The line of an answer of the compile call, with zeros behind it.
-pub fn report(answer: Compiled) -> Line
+pub fn report(answer: Result<usize, Rejection>) -> Line
     ensures value { result ≡ line_of (report_of (compiled_reply answer)) }
     ensures length_bound { result.length ≤ 64 }
 {
     let mut text = Line::new();
     match answer {
-        Compiled::Accepted(count) => {
+        Ok(count) => {
             text.push_bytes(b"accepted ");
             text.push_decimal(count as u64);
         }
-        Compiled::Refused {
-            refusal,
-            line,
-            column: _,
-        } => {
+        Err(rejection) => {
             text.push_bytes(b"refused ");
-            text.push_decimal(u64::from(basics::number_of(refusal)));
+            text.push_decimal(u64::from(basics::number_of(rejection.refusal)));
             text.push_bytes(b" line ");
-            text.push_decimal(line as u64);
+            text.push_decimal(rejection.line as u64);
         }
     }
     text.push_bytes(b"\n");
