@@ -1,27 +1,33 @@
 // Open blocks: which half of each is taken, whether its `else` is past, and the line that opened it.
 #![tactic(auto)]
 
-ghost use Rattle.std.specs.Prelude.{◌≡◌, ◌∷◌, ℕ, ◌-◌, ◌<◌, ◌≤◌};
-ghost use Rattle.blocks.specs.Blocks.{depth_limit, is_taken, around_of, inert};
-ghost use Rattle.blocks.specs.Internal.{stack, no_blocks, blocks_of, starts_of, RoomFor, Changed};
+ghost use Rattle.std.specs.Prelude.{◌≡◌, ◌-◌, ◌≤◌};
+ghost use Rattle.blocks.specs.Blocks.{depth_limit, is_taken, inert};
 
 // How many open blocks and conditions of a line there may be together.
 const DEPTH_LIMIT: usize = 8;
 
 // An open block: whether its first half is taken, whether its second is, and whether its `else` is past.
-#[derive(Clone, Copy)]
+#[derive(Clone, Copy, Default)]
 pub struct OpenBlock {
     pub first: bool,
     pub second: bool,
     pub past: bool,
 }
 
-// The open blocks and the numbers of the lines that opened them: the first `depth` of each array, the innermost last.
+// An open block and the number of the line that opened it.
+#[derive(Clone, Copy, Default)]
+pub struct Level {
+    pub block: OpenBlock,
+    pub start: usize,
+}
+
+// The open blocks: the first `depth` levels, the innermost last.
 #[derive(Clone, Copy)]
 pub struct Blocks {
-    pub blocks: [OpenBlock; DEPTH_LIMIT],
-    pub starts: [usize; DEPTH_LIMIT],
+    pub levels: [Level; DEPTH_LIMIT],
     pub depth: usize,
+    pub ghost within: { depth ≤ depth_limit },
 }
 
 // A line that opens a block, with the halves that are taken; or goes on to its second half; or closes it.
@@ -42,156 +48,104 @@ pub struct Around {
     pub closes: bool,
 }
 
-// No block open.
-pub fn no_blocks() -> Blocks
-    ensures { result ≡ no_blocks }
-{
-    let blocks = [OpenBlock {
-        first: false,
-        second: false,
-        past: false,
-    }; DEPTH_LIMIT];
-    let starts = [0usize; DEPTH_LIMIT];
-    Blocks {
-        blocks,
-        starts,
-        depth: 0,
+impl OpenBlock {
+    // Whether lines at this place in the block are taken.
+    fn is_taken(self) -> bool
+        ensures { result ≡ is_taken self }
+    {
+        if self.past { self.second } else { self.first }
     }
 }
 
-fn is_taken(b: OpenBlock) -> bool
-    ensures { result ≡ is_taken b }
-{
-    if b.past {
-        return b.second;
-    }
-    b.first
-}
-
-// What a line has to know of the blocks around it.
-pub fn around_of(blocks: Blocks) -> Around
-    requires { blocks.depth ≤ depth_limit }
-    ensures { result ≡ around_of (blocks_of blocks) }
-{
-    let depth = blocks.depth;
-    let room = DEPTH_LIMIT - depth;
-    if depth == 0 {
-        return Around {
-            room,
-            taken: true,
-            turns: false,
-            closes: false,
-        };
-    }
-    let all = blocks.blocks;
-    let b = all[depth - 1];
-    let taken = is_taken(b);
-    Around {
-        room,
-        taken,
-        turns: !b.past,
-        closes: true,
+impl BlockLine {
+    // The line behind a failed condition, or inside lines not taken.
+    pub fn inert(self) -> BlockLine
+        ensures { result ≡ inert self }
+    {
+        match self {
+            BlockLine::Open { .. } => BlockLine::Open {
+                first: false,
+                second: false,
+            },
+            other => other,
+        }
     }
 }
 
-// A line that opens a block behind a failed condition, or inside lines not taken.
-pub fn inert_line(line: BlockLine) -> BlockLine
-    ensures { result ≡ inert line }
-{
-    match line {
-        BlockLine::Else => BlockLine::Else,
-        BlockLine::EndIf => BlockLine::EndIf,
-        BlockLine::Open {
-            first: _,
-            second: _,
-        } => BlockLine::Open {
-            first: false,
-            second: false,
-        },
-    }
-}
+impl Blocks {
+    ghost use Rattle.blocks.specs.Blocks.{around_of};
+    ghost use Rattle.blocks.specs.Internal.{no_blocks, levels_of, blocks_of, starts_of, first_of, RoomFor, Changed};
 
-// One block more.
-fn opened(blocks: Blocks, first: bool, second: bool, number: usize) -> Blocks
-    requires { blocks.depth < depth_limit }
-    ensures { Changed blocks (BlockLine.Open first second) number result }
-{
-    let depth = blocks.depth;
-    let mut all = blocks.blocks;
-    let mut starts = blocks.starts;
-    all[depth] = OpenBlock {
-        first,
-        second,
-        past: false,
-    };
-    starts[depth] = number;
-    Blocks {
-        blocks: all,
-        starts,
-        depth: depth + 1,
+    // No block open.
+    pub fn new() -> Blocks
+        ensures { result ≡ no_blocks }
+    {
+        Blocks {
+            levels: [Level::default(); DEPTH_LIMIT],
+            depth: 0,
+        }
     }
-}
 
-// The innermost block in its second half, whatever the line's number.
-fn turned(blocks: Blocks) -> Blocks
-    requires { blocks.depth ≤ depth_limit }
-    ensures { (number : ℕ) → Changed blocks BlockLine.Else number result }
-{
-    let depth = blocks.depth;
-    if depth == 0 {
-        return blocks;
+    // The innermost level.
+    fn top(&self) -> Option<Level>
+        ensures { result ≡ first_of (levels_of self.now) }
+    {
+        self.levels[..self.depth].last().copied()
     }
-    let mut all = blocks.blocks;
-    let starts = blocks.starts;
-    let b = all[depth - 1];
-    all[depth - 1] = OpenBlock {
-        first: b.first,
-        second: b.second,
-        past: true,
-    };
-    Blocks {
-        blocks: all,
-        starts,
-        depth,
-    }
-}
 
-// One block less, whatever the line's number.
-fn closed(blocks: Blocks) -> Blocks
-    requires { blocks.depth ≤ depth_limit }
-    ensures { (number : ℕ) → Changed blocks BlockLine.EndIf number result }
-{
-    let depth = blocks.depth;
-    if depth == 0 {
-        return blocks;
+    // What a line has to know of the blocks around it.
+    pub fn around(&self) -> Around
+        ensures { result ≡ around_of (blocks_of self.now) }
+    {
+        let room = DEPTH_LIMIT - self.depth;
+        match self.top() {
+            None => Around {
+                room,
+                taken: true,
+                turns: false,
+                closes: false,
+            },
+            Some(Level { block, .. }) => Around {
+                room,
+                taken: block.is_taken(),
+                turns: !block.past,
+                closes: true,
+            },
+        }
     }
-    let all = blocks.blocks;
-    let starts = blocks.starts;
-    Blocks {
-        blocks: all,
-        starts,
-        depth: depth - 1,
-    }
-}
 
-// The open blocks after a line of that number.
-pub fn blocks_after(blocks: Blocks, line: BlockLine, number: usize) -> Blocks
-    requires { (blocks.depth ≤ depth_limit) × RoomFor (depth_limit - blocks.depth) line }
-    ensures { Changed blocks line number result }
-{
-    match line {
-        BlockLine::Else => turned(blocks),
-        BlockLine::EndIf => closed(blocks),
-        BlockLine::Open { first, second } => opened(blocks, first, second, number),
+    // The open blocks after a line of that number.
+    pub fn after(mut self, line: BlockLine, number: usize) -> Blocks
+        requires { RoomFor (depth_limit - self.depth) line }
+        ensures { Changed self line number result }
+    {
+        match line {
+            BlockLine::Open { first, second } => {
+                let block = OpenBlock {
+                    first,
+                    second,
+                    past: false,
+                };
+                self.levels[self.depth] = Level {
+                    block,
+                    start: number,
+                };
+                self.depth += 1;
+            }
+            BlockLine::Else => {
+                if let Some(top) = self.depth.checked_sub(1) {
+                    self.levels[top].block.past = true;
+                }
+            }
+            BlockLine::EndIf => self.depth = self.depth.saturating_sub(1),
+        }
+        self
     }
-}
 
-// The number of the line that opened the innermost block.
-pub fn innermost(blocks: Blocks) -> usize
-    requires { (0 < blocks.depth) × (blocks.depth ≤ depth_limit) }
-    ensures { starts_of blocks ≡ result ∷ stack 0 blocks.starts (blocks.depth - 1) }
-{
-    let starts = blocks.starts;
-    let depth = blocks.depth;
-    starts[depth - 1]
+    // The number of the line that opened the innermost block.
+    pub fn innermost(&self) -> Option<usize>
+        ensures { result ≡ first_of (starts_of self.now) }
+    {
+        self.top().map(|level| level.start)
+    }
 }

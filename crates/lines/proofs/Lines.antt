@@ -1,30 +1,28 @@
--- What the loop over the bytes of a line goes by, the CR at a line's end by position, and columns.
-use Prim.Native.Nat.{ℕ, suc, ◌+◌, ◌-◌, ◌≤◌, ◌<◌}
-use mathlib.Core.Path.{◌≡◌, refl, sym, ap, ◌∙◌}
-use mathlib.Core.List.{List, [], ◌∷◌}
-use lib.ListN.{length, take, drop, get_or, drop_of_length-le}
-use lib.Seq.{drop-cons, length-take-le}
-use native.Mathlib.Nat.{add-zero}
-use native.Mathlib.Numerals.{add-one}
-use native.Mathlib.Omega.{arith}
+-- Where a line ends, as the first LF, the CR at a line's end by position, and columns.
+use Rattle.std.proofs.Common.{◌≡◌, refl, sym, ap, ◌∙◌, ℕ, suc, ◌+◌, ◌-◌, ◌≤◌, ◌<◌, List, [], ◌∷◌, Option, length, take, drop, get_or, arith}
+use Rattle.std.specs.List.{position, position_or_len}
+use Rattle.std.specs.Option.{unwrap_or}
+use Rattle.std.proofs.lemmas.List.{length-take-le}
 use borrow.Author.Tests.{eq-eqb, ne_eqb}
+use lib.Dec.{eqb}
+use Rattle.basics.proofs.Tests.{by_cases}
+use Rattle.utf8.proofs.Positions.{end_of, first_from, first_within}
 use Rattle.lines.specs.Lines.{LF, CR, without_cr}
 use Rattle.lines.specs.Texts.{column_of}
-use Rattle.lines.specs.Internal.{to_lf, Trimmed}
+use Rattle.lines.specs.Internal.{to_lf, LineEnd, Trimmed}
 
--- x is what the loop is to answer
-module _ (x : ℕ) (text : List ℕ) (i : ℕ) (inv : x ≡ i + to_lf (drop i text)) where
-  pub end_here : i < length text → get_or text i 0 ≡ LF → i ≡ x
-  unfolding to_lf
-  end_here h q = sym (inv ∙ rw (drop-cons text i 0, eq-eqb _ _ q, add-zero i))
+to_lf_lem : (bs : List ℕ) → to_lf bs ≡ position_or_len (λ b. eqb b LF) bs
+unfolding to_lf
+to_lf_lem [] = refl
+to_lf_lem (b ∷ bs) = by_cases (eqb b LF) (λ q. rw q) (λ q. rw q (omega (arith, to_lf_lem bs)))
 
-  pub end_on : i < length text → (get_or text i 0 ≡ LF → ⊥) → x ≡ (i + 1) + to_lf (drop (i + 1) text)
-  unfolding to_lf
-  end_on h q = inv ∙ rw (drop-cons text i 0, ne_eqb _ _ q, add-one i) (omega arith)
-
-  pub end_none : length text ≤ i → i ≡ x
-  unfolding to_lf
-  end_none h = sym (inv ∙ rw (drop_of_length-le text h, add-zero i))
+-- n is what `position` answers of the text from `at` on, or how many bytes there are
+pub lf_first : (text : List ℕ) (at n : ℕ) (r : Option ℕ) → at ≤ length text → n ≡ unwrap_or r (length (end_of text at)) → r ≡ position (λ b. eqb b LF) (end_of text at) → LineEnd text at (at + n)
+lf_first text at n r h is e = record {
+  is = first_from (λ b. eqb b LF) text at n r is e ∙ ap (λ k. at + k) (sym (to_lf_lem (drop at text)));
+  from = omega arith;
+  within = first_within (λ b. eqb b LF) text at n r is e h;
+}
 
 pub cr_empty : (line : List ℕ) → length line ≡ 0 → take 0 line ≡ without_cr line
 unfolding without_cr
@@ -47,6 +45,18 @@ cr_none [] q = refl
 cr_none (b ∷ []) q = rw (ne_eqb _ _ q)
 cr_none (b ∷ c ∷ r) q = ap (λ (l : List ℕ). b ∷ l) (cr_none (c ∷ r) (rw (last_on r) at q))
 
--- n bytes stand before the CR
-pub column_at : (line : List ℕ) (n left : ℕ) {r : ℕ} → Trimmed line n → r ≡ n - left + 1 → r ≡ column_of (without_cr line) left
-column_at line n left t h = rw (← t.is, length-take-le n line t.within) h
+pub trimmed_last : (line : List ℕ) → get_or line (length line - 1) 0 ≡ CR → Trimmed line (length line - 1)
+trimmed_last line q = record { is = cr_last line q; within = omega arith }
+
+pub trimmed_none : (line : List ℕ) → (get_or line (length line - 1) 0 ≡ CR → ⊥) → Trimmed line (length line)
+trimmed_none line q = record { is = cr_none line q; within = omega arith }
+
+pub trimmed_empty : (line : List ℕ) → length line < 1 → Trimmed line (length line)
+trimmed_empty [] h = record { is = cr_empty [] refl; within = omega arith }
+trimmed_empty (b ∷ bs) h = absurd (omega arith)
+
+pub ruleset trimmed_cases = (trimmed_last, trimmed_none, trimmed_empty)
+
+-- n bytes stand before the CR, m of them before the place
+pub column_at : (line : List ℕ) (n m left : ℕ) → Trimmed line n → m ≡ n - left → m + 1 ≡ column_of (without_cr line) left
+column_at line n m left t h = rw (← t.is, length-take-le n line t.within, h)

@@ -15,12 +15,11 @@ use Rattle.basics.proofs.Tests.{by_cases, either}
 use Rattle.basics.specs.declared.Refusal.{Refusal}
 use Rattle.basics.specs.declared.Refusal.TheVariants.{TextTooLong, LineTooLong}
 use Rattle.lines.specs.Lines.{LF, with_byte, lines_of, without_cr, is_ended}
-use Rattle.lines.specs.Texts.{text_limit, line_limit, Step, next, stop, column_of, Outcome, accepted, rejected, on_step, run_lines, run_text, outcome_reply, outcome_column, compiled_reply, compiled_column}
-use Rattle.lines.specs.Internal.{to_lf, LineEnd, leaves}
-use Rattle.lines.specs.declared.Compiled.{Compiled}
-use Rattle.lines.specs.declared.Compiled.TheVariants.{Accepted, Refused}
-use Rattle.lines.specs.declared.Stopped.{Stopped}
-use Rattle.lines.specs.declared.Stopped.TheVariants.{No, By}
+use Rattle.lines.specs.Texts.{text_limit, line_limit, Step, next, stop, column_of, Outcome, accepted, rejected, on_step, run_lines, run_text, outcome_reply, outcome_column, compiled_reply, compiled_column, rejection_of}
+use Rattle.lines.specs.Internal.{to_lf, LineEnd, step_of}
+use Rattle.lines.specs.declared.LineFault.{LineFault}
+use Rattle.lines.specs.declared.Rejection.{Rejection}
+use Rattle.std.specs.Prelude.{Result, Ok, Err}
 
 -- ---- the next line, by position
 
@@ -83,6 +82,10 @@ module _ {S : Type 0} (step : S → List ℕ → Step S) where
           let same : (n + 1) + length xs ≡ n + suc (length xs) = omega arith in
           rw same at (ih s₁ e)
 
+-- a rejection as what a text gives
+abbrev pub outcome_of : {S : Type 0} → Rejection → Outcome S
+outcome_of e = rejected e.refusal e.line e.column
+
 -- where a loop over the lines of a text has come to: what the text still gives, from the state s before line n, which begins at `at`
 pub record Reached {S : Type 0} (step : S → List ℕ → Step S) (text : List ℕ) (whole : Outcome S) (at n : ℕ) (s : S) : Type 0 where
   pub within : at ≤ length text + 1
@@ -95,15 +98,15 @@ module _ {S : Type 0} (step : S → List ℕ → Step S) (text : List ℕ) (whol
   unfolding run_lines lines_of
   lines_read h = here.left ∙ rw (drop_of_length-le text h)
 
-  -- the next line ends at e; o and s' are what it leaves
-  module _ (e : ℕ) (o : Stopped) (s' : S) (some : at < length text) (ends : LineEnd text at e) (does : leaves o s' ≡ step s (without_cr (take (e - at) (drop at text)))) where
-    pub line_refused : (refusal : Refusal) (left : ℕ) {column : ℕ} → o ≡ By refusal left → column ≡ column_of (without_cr (take (e - at) (drop at text))) left → whole ≡ rejected refusal n column
+  -- the next line ends at e, and o is what was answered of it
+  module _ (e : ℕ) (o : Result S LineFault) (some : at < length text) (ends : LineEnd text at e) (does : step_of o ≡ step s (without_cr (take (e - at) (drop at text)))) where
+    pub line_refused : (fault : LineFault) → o ≡ Err fault → whole ≡ outcome_of (rejection_of fault (take (e - at) (drop at text)) n)
     unfolding run_lines
-    line_refused refusal left q c = rw c (here.left ∙ rw (line_next text at e ends some, ← does, q))
+    line_refused fault q = here.left ∙ rw (line_next text at e ends some, ← does, q)
 
-    pub line_read : o ≡ No → Reached step text whole (e + 1) (n + 1) s'
+    pub line_read : (s' : S) → o ≡ Ok s' → Reached step text whole (e + 1) (n + 1) s'
     unfolding run_lines
-    line_read q = record { within = omega arith; count = omega arith; left = here.left ∙ rw (line_next text at e ends some, ← does, q) }
+    line_read s' q = record { within = omega arith; count = omega arith; left = here.left ∙ rw (line_next text at e ends some, ← does, q) }
 
 -- before the first line; and a text that is too long, of which none is read
 module _ {S : Type 0} (step : S → List ℕ → Step S) (s : S) (text : List ℕ) where
@@ -117,15 +120,15 @@ module _ {S : Type 0} (step : S → List ℕ → Step S) (s : S) (text : List �
 
 -- a call that hands its table back by value: its answer, the column, and the table, by what the text gives
 module _ {S A : Type 0} (count : S → ℕ) (table : Outcome S → A) where
-  abbrev pub Ensured : Outcome S → Compiled → A → Type 0
+  abbrev pub Ensured : Outcome S → Result ℕ Rejection → A → Type 0
   Ensured outcome answer handed = (compiled_reply answer ≡ outcome_reply count outcome) × ((compiled_column answer ≡ outcome_column outcome) × (handed ≡ table outcome))
 
-  pub text_accepted : (outcome : Outcome S) (s : S) {handed : A} → outcome ≡ accepted s → handed ≡ table (accepted s) → Ensured outcome (Accepted (count s)) handed
+  pub text_accepted : (outcome : Outcome S) (s : S) {handed : A} → outcome ≡ accepted s → handed ≡ table (accepted s) → Ensured outcome (Ok (count s)) handed
   text_accepted outcome s q e = rw q (refl, (refl, e))
 
-  pub text_refused : (outcome : Outcome S) {refusal : Refusal} {n column : ℕ} {answer : Compiled} {handed : A}
-      → outcome ≡ rejected refusal n column → answer ≡ Refused refusal n column → handed ≡ table (rejected refusal n column) → Ensured outcome answer handed
-  text_refused outcome q e p = (rw (q, e), (rw (q, e), rw q p))
+  pub text_refused : (outcome : Outcome S) {e : Rejection} {answer : Result ℕ Rejection} {handed : A}
+      → outcome ≡ outcome_of e → answer ≡ Err e → handed ≡ table (outcome_of e) → Ensured outcome answer handed
+  text_refused outcome q a p = (rw (q, a), (rw (q, a), rw q p))
 
 -- ---- which refusals there are
 

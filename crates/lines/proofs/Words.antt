@@ -1,48 +1,58 @@
--- One byte more of a scan and of a comparison, by position: what the loops over bytes go by.
-use Prim.Native.Nat.{ℕ, ◌+◌, ◌<◌, ◌≤◌}
-use mathlib.Core.Path.{◌≡◌, sym, ◌∙◌}
-use mathlib.Core.Bool.{Bool, true, false, beq}
-use mathlib.Core.List.{List}
-use lib.ListN.{length, drop, get_or, drop_of_length-le}
-use lib.Seq.{drop-cons}
-use lib.Dec.{leb}
-use borrow.Author.Tests.{eq-eqb, ne_eqb, leb-true, leb-false}
-use native.Mathlib.Numerals.{add-one}
+-- Where words begin and end, as the first byte that passes a test; and the spelling of words, as equal lists.
+use Rattle.std.proofs.Common.{◌≡◌, refl, sym, ◌∙◌, ℕ, ◌+◌, ◌≤◌, true, false, not, List, [], ◌∷◌, Option, length, drop, arith}
+use Rattle.std.specs.List.{position, position_or_len}
+use Rattle.std.specs.Option.{unwrap_or}
+use Rattle.std.specs.Cmp.Lexicographic.{pointwise}
+use Rattle.std.proofs.Math.Nat.{add-zero}
+use lib.Dec.{eqb}
 use Rattle.basics.proofs.Tests.{by_cases}
-use Rattle.lines.specs.Words.{is_blank, first_from, same_bytes}
+use Rattle.utf8.proofs.Positions.{end_of, first_from, first_within}
+use Rattle.lines.specs.Words as W
+use Rattle.lines.specs.Words.{is_blank, first_at, word_at, same_bytes}
+use Rattle.lines.specs.Internal.{FirstAt, NextWord}
 
--- x is what the loop is to answer
-module _ (x : ℕ) (blank : Bool) (line : List ℕ) (i : ℕ) (inv : x ≡ first_from blank (drop i line) i) where
-  module _ (t : Bool) (h : i < length line) (e : t ≡ is_blank (get_or line i 0)) where
-    pub first_here : beq t blank ≡ true → i ≡ x
-    unfolding first_from
-    first_here q = sym (inv ∙ rw (drop-cons line i 0, ← e, q))
+space_end : (bs : List ℕ) (i : ℕ) → W.first_from false bs i ≡ i + position_or_len (λ b. not (is_blank b)) bs
+unfolding W.first_from
+space_end [] i = sym (add-zero i)
+space_end (b ∷ bs) i =
+    by_cases (is_blank b)
+    (λ q. rw q (omega (arith, space_end bs (i + 1))))
+    (λ q. rw q (sym (add-zero i)))
 
-    pub first_on : beq t blank ≡ false → x ≡ first_from blank (drop (i + 1) line) (i + 1)
-    unfolding first_from
-    first_on q = inv ∙ rw (drop-cons line i 0, ← e, q, add-one i)
+word_end : (bs : List ℕ) (i : ℕ) → W.first_from true bs i ≡ i + position_or_len is_blank bs
+unfolding W.first_from
+word_end [] i = sym (add-zero i)
+word_end (b ∷ bs) i =
+    by_cases (is_blank b)
+    (λ q. rw q (sym (add-zero i)))
+    (λ q. rw q (omega (arith, word_end bs (i + 1))))
 
-  pub first_none : length line ≤ i → i ≡ x
-  unfolding first_from
-  first_none h = sym (inv ∙ rw (drop_of_length-le line h))
+-- n is what `position` answers of the line from `at` on, or how many bytes there are
+module _ (line : List ℕ) (at n : ℕ) (r : Option ℕ) (h : at ≤ length line) (is : n ≡ unwrap_or r (length (end_of line at))) where
+  pub word_first : r ≡ position (λ b. not (is_blank b)) (end_of line at) → FirstAt false line at (at + n)
+  unfolding first_at
+  word_first e = record {
+    is = first_from (λ b. not (is_blank b)) line at n r is e ∙ sym (space_end (drop at line) at);
+    from = omega arith;
+    within = first_within (λ b. not (is_blank b)) line at n r is e h;
+  }
 
--- two lists side by side
-module _ (x : Bool) (a b : List ℕ) (i : ℕ) (inv : x ≡ same_bytes (drop i a) (drop i b)) where
-  pub same_on : i < length a → i < length b → get_or a i 0 ≡ get_or b i 0 → x ≡ same_bytes (drop (i + 1) a) (drop (i + 1) b)
-  unfolding same_bytes
-  same_on h k q = inv ∙ rw (drop-cons a i 0, drop-cons b i 0, eq-eqb _ _ q, add-one i)
+  pub blank_first : r ≡ position is_blank (end_of line at) → FirstAt true line at (at + n)
+  unfolding first_at
+  blank_first e = record {
+    is = first_from is_blank line at n r is e ∙ sym (word_end (drop at line) at);
+    from = omega arith;
+    within = first_within is_blank line at n r is e h;
+  }
 
-  pub same_not : i < length a → i < length b → (get_or a i 0 ≡ get_or b i 0 → ⊥) → false ≡ x
-  unfolding same_bytes
-  same_not h k q = sym (inv ∙ rw (drop-cons a i 0, drop-cons b i 0, ne_eqb _ _ q))
+pub word_found : (line : List ℕ) (at start end : ℕ) → FirstAt false line at start → FirstAt true line start end → NextWord line at (record { start = start; end = end })
+unfolding word_at
+word_found line at start end s e = record { is = rw (← s.is, ← e.is); from = s.from; order = e.from; within = e.within }
 
-  pub same_longer : i < length a → length b ≤ i → false ≡ x
-  unfolding same_bytes
-  same_longer h k = sym (inv ∙ rw (drop-cons a i 0, drop_of_length-le b k))
-
-  pub same_over : length a ≤ i → leb (length b) i ≡ x
-  unfolding same_bytes
-  same_over h =
-      by_cases (leb (length b) i)
-      (λ q. q ∙ sym (inv ∙ rw (drop_of_length-le a h, drop_of_length-le b (leb-true _ _ q))))
-      (λ q. q ∙ sym (inv ∙ rw (drop_of_length-le a h, drop-cons b i 0 (leb-false _ _ q))))
+-- `==` of two slices
+pub same_lem : (xs ys : List ℕ) → pointwise eqb xs ys ≡ same_bytes xs ys
+unfolding same_bytes
+same_lem [] [] = refl
+same_lem [] (y ∷ ys) = refl
+same_lem (x ∷ xs) [] = refl
+same_lem (x ∷ xs) (y ∷ ys) = by_cases (eqb x y) (λ q. rw q (same_lem xs ys)) (λ q. rw q)

@@ -1,12 +1,11 @@
 -- What the code knows beyond the rules: positions within a text or a line, and how it says what a line leaves.
-use Rattle.std.specs.Prelude.{ℕ, ◌+◌, ◌≤◌, ◌≡◌, Bool, List, [], ◌∷◌, length, take, drop, eqb}
+use Rattle.std.specs.Prelude.{ℕ, ◌+◌, ◌≤◌, ◌≡◌, Bool, List, [], ◌∷◌, length, take, drop, eqb, Result, Ok, Err}
 use Rattle.basics.specs.Choice.{pick}
 use Rattle.lines.specs.Lines.{LF, without_cr}
 use Rattle.lines.specs.Words.{first_at, word_at}
 use Rattle.lines.specs.Texts.{Step, next, stop}
 use Rattle.lines.specs.declared.Word.{Word}
-use Rattle.lines.specs.declared.Stopped.{Stopped}
-use Rattle.lines.specs.declared.Stopped.TheVariants.{No, By}
+use Rattle.lines.specs.declared.LineFault.{LineFault}
 
 -- how many bytes stand before the first LF, or all
 unfoldable pub to_lf : List ℕ → ℕ
@@ -38,7 +37,7 @@ pub record NextWord (line : List ℕ) (at : ℕ) (w : Word) : Type 0 where
   pub order : w.start ≤ w.end
   pub within : w.end ≤ length line
 
--- a state beside the refusal that there may be
-abbrev pub leaves : {S : Type 0} → Stopped → S → Step S
-leaves No s = next s
-leaves (By refusal left) s = stop refusal left
+-- what the code answers of a line, as what the line does
+abbrev pub step_of : {S : Type 0} → Result S LineFault → Step S
+step_of (Ok s) = next s
+step_of (Err fault) = stop fault.refusal fault.left

@@ -1,19 +1,18 @@
 -- A text is read line by line; the first line that is refused decides. How a line changes the state is a parameter. And what a
 -- compile call answers, for every kind of table.
-use Rattle.std.specs.Prelude.{ℕ, ◌+◌, ◌-◌, List, [], ◌∷◌, length, ltb}
+use Rattle.std.specs.Prelude.{ℕ, ◌+◌, ◌-◌, List, [], ◌∷◌, length, ltb, Result, Ok, Err}
 use Rattle.basics.specs.Choice.{pick}
 use Rattle.basics.specs.Refusals.{number_of, Reply, answered, refused}
 use Rattle.basics.specs.declared.Refusal.{Refusal}
 use Rattle.basics.specs.declared.Refusal.TheVariants.{TextTooLong, LineTooLong, NotUtf8}
 use Rattle.utf8.specs.Utf8.{utf8}
-use Rattle.utf8.specs.declared.Validity.{Validity}
-use Rattle.utf8.specs.declared.Validity.TheVariants.{Good, BadAt}
+use Rattle.utf8.specs.declared.BadSequence.{BadSequence}
 use Rattle.lines.specs.Lines.{lines_of, without_cr}
 use Rattle.lines.specs.Words.{is_over}
+use Rattle.lines.specs.declared.LineFault.{LineFault}
 use Rattle.lines.specs.declared.Opening.{Opening}
-use Rattle.lines.specs.declared.Opening.TheVariants.{Fault, Skip, Directive}
-use Rattle.lines.specs.declared.Compiled.{Compiled}
-use Rattle.lines.specs.declared.Compiled.TheVariants as C
+use Rattle.lines.specs.declared.Opening.TheVariants.{Skip, Directive}
+use Rattle.lines.specs.declared.Rejection.{Rejection}
 
 -- a text is at most 65,536 bytes, a line without its end at most 1,024
 abbrev pub text_limit : ℕ
@@ -23,21 +22,23 @@ abbrev pub line_limit : ℕ
 line_limit = 1024
 
 -- what a line of UTF-8 is: whitespace only or a comment is skipped
-abbrev pub valid_opening : List ℕ → Validity → Opening
-valid_opening line (BadAt p) = Fault NotUtf8 (length line - p)
-valid_opening line Good = pick (is_over line 0) Skip Directive
+abbrev pub valid_opening : List ℕ → Result Unit BadSequence → Result Opening LineFault
+valid_opening line (Err bad) = Err (record { refusal = NotUtf8; left = length line - bad.start })
+valid_opening line (Ok u) = Ok (pick (is_over line 0) Skip Directive)
 
 -- refusals 3 and 4 come before anything else of the line, comments included
-unfoldable pub opening_of : List ℕ → Opening
+unfoldable pub opening_of : List ℕ → Result Opening LineFault
 opening_of line =
-    let valid : Opening = valid_opening line (utf8 line) in
-    pick (ltb line_limit (length line)) (Fault LineTooLong (length line - line_limit)) valid
+    let long : LineFault = record { refusal = LineTooLong; left = length line - line_limit } in
+    let valid : Result Opening LineFault = valid_opening line (utf8 line) in
+    pick (ltb line_limit (length line)) (Err long) valid
 
--- what follows from a line that opens so: from its fault, from nothing to read, from its directive
-abbrev pub if_directive : {A : Type 0} → Opening → (Refusal → ℕ → A) → A → A → A
-if_directive (Fault refusal left) bad skipped read = bad refusal left
-if_directive Skip bad skipped read = skipped
-if_directive Directive bad skipped read = read
+-- what follows from a line that opens so: from nothing to read, from its directive; a fault stands
+abbrev pub if_directive : {A : Type 0} → Result Opening LineFault → Result A LineFault → Result A LineFault
+    → Result A LineFault
+if_directive (Err fault) skipped read = Err fault
+if_directive (Ok Skip) skipped read = skipped
+if_directive (Ok Directive) skipped read = read
 
 -- what a line does: it leaves a state, or is refused at a place so many bytes before its end
 pub data Step (S : Type 0) : Type 0 where
@@ -82,10 +83,14 @@ outcome_column (accepted s) = 0
 outcome_column (rejected refusal line column) = column
 
 -- the number, place and value of each case of its answer, and the column
-abbrev pub compiled_reply : Compiled → Reply ℕ
-compiled_reply (C.Accepted count) = answered count
-compiled_reply (C.Refused refusal line column) = refused (number_of refusal) line
+abbrev pub compiled_reply : Result ℕ Rejection → Reply ℕ
+compiled_reply (Ok count) = answered count
+compiled_reply (Err e) = refused (number_of e.refusal) e.line
 
-abbrev pub compiled_column : Compiled → ℕ
-compiled_column (C.Accepted count) = 0
-compiled_column (C.Refused refusal line column) = column
+abbrev pub compiled_column : Result ℕ Rejection → ℕ
+compiled_column (Ok count) = 0
+compiled_column (Err e) = e.column
+
+-- a fault by its place in the text, where the line with its CR, if it has one, and its number are given
+abbrev pub rejection_of : LineFault → List ℕ → ℕ → Rejection
+rejection_of fault line n = record { refusal = fault.refusal; line = n; column = column_of (without_cr line) fault.left }

@@ -4,11 +4,10 @@
 ghost use Rattle.std.specs.Prelude.{◌≡◌, ◌≤◌, length};
 ghost use Rattle.lines.specs.Lines.{without_cr};
 ghost use Rattle.lines.specs.Words.{is_blank, same_bytes, is_over};
-ghost use Rattle.lines.specs.Texts.{opening_of, column_of};
-ghost use Rattle.lines.specs.Internal.{LineEnd, Trimmed, FirstAt, NextWord};
+ghost use Rattle.lines.specs.Texts.{opening_of, column_of, rejection_of};
+ghost use Rattle.lines.specs.Internal.{LineEnd, Trimmed, NextWord};
 
 use basics::Refusal;
-use utf8::Validity;
 
 // How many bytes a text may have, and a line without its end.
 pub const TEXT_LIMIT: usize = 65536;
@@ -22,32 +21,46 @@ pub struct Word {
     pub end: usize,
 }
 
-// What a line is before its words are read: at fault, nothing to read, or a directive. A fault's place is the number of
-// bytes from it to the line's end.
+// A fault of a line: why, and how many bytes before the line's end.
+#[derive(Clone, Copy)]
+pub struct LineFault {
+    pub refusal: Refusal,
+    pub left: usize,
+}
+
+// What a line that has no fault is before its words are read: nothing to read, or a directive.
 #[derive(Clone, Copy)]
 pub enum Opening {
-    Fault(Refusal, usize),
     Skip,
     Directive,
 }
 
-// What a compile call answers: a count of what the text gave, or a refusal with its line and its column there, 0 where it
-// has none.
+// What was read of a line, and the position after it.
 #[derive(Clone, Copy)]
-pub enum Compiled {
-    Accepted(usize),
-    Refused {
-        refusal: Refusal,
-        line: usize,
-        column: usize,
-    },
+pub struct Parsed<T> {
+    pub value: T,
+    pub after: usize,
 }
 
-// Whether a line was refused, and how many bytes before its end; the state that it leaves stands beside.
+// Why a compile call refuses a text, with the line and its column there, 0 where it has none.
 #[derive(Clone, Copy)]
-pub enum Stopped {
-    No,
-    By(Refusal, usize),
+pub struct Rejection {
+    pub refusal: Refusal,
+    pub line: usize,
+    pub column: usize,
+}
+
+impl LineFault {
+    // The fault by its place in the text, where `here` is the line with that number, with its CR if it has one.
+    pub fn in_line(self, here: &[u8], line: usize) -> Rejection
+        ensures { result ≡ rejection_of self here.now line }
+    {
+        Rejection {
+            refusal: self.refusal,
+            line,
+            column: column_of(here, self.left),
+        }
+    }
 }
 
 // Where the line that begins at `at` ends: at its LF, or at the end of the text.
@@ -55,64 +68,35 @@ pub fn line_end(text: &[u8], at: usize) -> usize
     requires { at ≤ length text.now }
     ensures { LineEnd text.now at result }
 {
-    let mut i = at;
-    while i < text.len() {
-        if text[i] == b'\n' {
-            return i;
-        }
-        i += 1;
-    }
-    i
+    let rest = &text[at..];
+    at + rest.iter().position(|b| *b == b'\n').unwrap_or(rest.len())
 }
 
 // How many bytes of a line stand before its one CR.
+#[tactic(auto, using(crate::proofs::Lines::trimmed_cases))]
 pub fn trimmed(line: &[u8]) -> usize
     ensures { Trimmed line.now result }
 {
-    let n = line.len();
-    if n == 0 {
-        return 0;
+    match line {
+        [.., b'\r'] => line.len() - 1,
+        _ => line.len(),
     }
-    if line[n - 1] == b'\r' {
-        return n - 1;
-    }
-    n
 }
 
 // The column of a place `left` bytes before the end of a line, whose one CR is not counted.
+#[tactic(auto, using(crate::proofs::Lines::column_at))]
 pub fn column_of(line: &[u8], left: usize) -> usize
     ensures { result ≡ column_of (without_cr line.now) left }
 {
-    let n = trimmed(line);
-    if left < n {
-        return n - left + 1;
-    }
-    1
+    trimmed(line).saturating_sub(left) + 1
 }
 
 // Whether a byte is whitespace.
+#[tactic(auto, using(basics::proofs::Tests::tests), unfolding(crate::specs::Words::is_blank))]
 pub fn is_blank(b: u8) -> bool
     ensures { result ≡ is_blank b }
 {
-    if b == b' ' {
-        return true;
-    }
-    b == b'\t'
-}
-
-// The first position from `at` on that is whitespace (`blank`) or that is none (not `blank`), or the line's end.
-fn first_at(line: &[u8], at: usize, blank: bool) -> usize
-    requires { at ≤ length line.now }
-    ensures { FirstAt blank line.now at result }
-{
-    let mut i = at;
-    while i < line.len() {
-        if is_blank(line[i]) == blank {
-            return i;
-        }
-        i += 1;
-    }
-    i
+    b == b' ' || b == b'\t'
 }
 
 // The next word from `at` on: empty, at the line's end, where there is none.
@@ -120,57 +104,56 @@ pub fn next_word(line: &[u8], at: usize) -> Word
     requires { at ≤ length line.now }
     ensures { NextWord line.now at result }
 {
-    let start = first_at(line, at, false);
-    let end = first_at(line, start, true);
+    let rest = &line[at..];
+    let before = rest
+        .iter()
+        .position(|b| !is_blank(*b))
+        .unwrap_or(rest.len());
+    let start = at + before;
+    let word = &line[start..];
+    let count = word.iter().position(|b| is_blank(*b)).unwrap_or(word.len());
+    let end = start + count;
     Word { start, end }
 }
 
 // Whether two slices hold the same bytes.
+#[tactic(auto, using(crate::proofs::Words::same_lem))]
 pub fn same_bytes(a: &[u8], b: &[u8]) -> bool
     ensures { result ≡ same_bytes a.now b.now }
 {
-    let mut i = 0;
-    while i < a.len() {
-        if b.len() <= i {
-            return false;
-        }
-        if a[i] != b[i] {
-            return false;
-        }
-        i += 1;
-    }
-    b.len() <= i
+    a == b
 }
 
 // Whether nothing, or a word that begins with `#`, stands from `at` on.
+#[tactic(auto, using(crate::proofs::Openings::over_at_lem, basics::proofs::Tests::tests))]
 pub fn is_over(line: &[u8], at: usize) -> bool
     requires { at ≤ length line.now }
     ensures { result ≡ is_over line.now at }
 {
     let w = next_word(line, at);
-    let start = w.start;
-    let end = w.end;
-    if start == end {
-        return true;
-    }
-    line[start] == b'#'
+    w.start == w.end || line[w.start] == b'#'
 }
 
 // What a line, without its end, is before its words are read.
-pub fn open_line(line: &[u8]) -> Opening
+#[tactic(auto, using(crate::proofs::Openings::opening_cases), unfolding(crate::specs::Texts::opening_of))]
+pub fn open_line(line: &[u8]) -> Result<Opening, LineFault>
     ensures { result ≡ opening_of line.now }
 {
     let n = line.len();
     if LINE_LIMIT < n {
-        return Opening::Fault(Refusal::LineTooLong, n - LINE_LIMIT);
+        return Err(LineFault {
+            refusal: Refusal::LineTooLong,
+            left: n - LINE_LIMIT,
+        });
     }
-    match utf8::check_utf8(line) {
-        Validity::BadAt(p) => Opening::Fault(Refusal::NotUtf8, n - p),
-        Validity::Good => {
-            if is_over(line, 0) {
-                return Opening::Skip;
-            }
-            Opening::Directive
-        }
+    if let Err(bad) = utf8::check_utf8(line) {
+        return Err(LineFault {
+            refusal: Refusal::NotUtf8,
+            left: n - bad.start,
+        });
     }
+    if is_over(line, 0) {
+        return Ok(Opening::Skip);
+    }
+    Ok(Opening::Directive)
 }

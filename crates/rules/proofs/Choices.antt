@@ -55,7 +55,7 @@ module _ (T : Table) (c : ℕ) (w : Walked) (from : w ≡ walk_with_cell T c) wh
     -- its end has no cell: the rules from 5 on
     pub rule_later : {r : Answer} → w.cell ≡ None → r ≡ choose 5 (later_candidates T last c) w.links → r ≡ rules_by T last c
     unfolding choose
-    rule_later none e = e ∙ sym (walk_first ∙ rw (none, same_twice (eqb w.links 0) None))
+    rule_later none e = e ∙ sym (walk_first ∙ rw (none, same_twice {A = Option ℕ} (eqb w.links 0) None))
 
     -- its end has a cell: rule 3 where there is no link, else rule 4
     pub rule_walked : (dots : ℕ) {r : Answer} → w.cell ≡ Some dots → r ≡ walk_answer dots w.links → r ≡ rules_by T last c

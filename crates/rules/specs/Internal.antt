@@ -1,5 +1,5 @@
 -- What the code knows beyond the rules: rules 7 and 8 go by two cells that are the same for every character.
-use Rattle.std.specs.Prelude.{ℕ, ◌%◌, List, [], ◌∷◌, eqb}
+use Rattle.std.specs.Prelude.{ℕ, ◌%◌, List, [], ◌∷◌, eqb, Option}
 use Rattle.basics.specs.Choice.{pick}
 use Rattle.scalars.specs.Characters.{is_braille, is_private, local_of, base_of, stand_in_of}
 use Rattle.definitions.specs.Definitions.{Table, explicit, walk}

@@ -1,5 +1,5 @@
 -- From character to cell: rules 1 to 9.
-use Rattle.std.specs.Prelude.{ℕ, ◌+◌, ◌%◌, Bool, List, [], ◌∷◌, eqb, Option, None, Some}
+use Rattle.std.specs.Prelude.{ℕ, ◌+◌, ◌%◌, Bool, List, [], ◌∷◌, eqb, Option, None}
 use Rattle.basics.specs.Choice.{pick, if_some}
 use Rattle.scalars.specs.Characters.{is_braille, is_private, local_of, base_of, stand_in_of}
 use Rattle.definitions.specs.declared.Walk.{Walk}

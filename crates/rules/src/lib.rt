@@ -35,6 +35,7 @@ pub struct Rules<T> {
 
 impl<T: Finder> Rules<T> {
     // Asks for the cells of rules 7 and 8, once for all characters of a call.
+    #[tactic(auto, using(crate::proofs::Choices::both_asked))]
     pub fn new(finder: T, charset: u32) -> Rules<T>
         ensures finder { result.finder ≡ finder }
         ensures charset { result.charset ≡ charset }
@@ -53,6 +54,7 @@ impl<T: Finder> Rules<T> {
     }
 
     // The explicit cell of a character that there may be.
+    #[tactic(auto, using(basics::proofs::Tests::on_value))]
     fn explicit_of(&self, other: Option<u32>) -> Option<u8>
         ensures { result ≡ explicit_of (table (T.definitions self.now.finder)) other }
     {
@@ -60,19 +62,29 @@ impl<T: Finder> Rules<T> {
     }
 
     // Rules 5 to 9.
+    #[tactic(auto, using(basics::proofs::Tests::on_value, crate::proofs::Choices::asked), unfolding(crate::specs::Rules::choose))]
     fn later_rules(&self, c: u32, links: usize) -> Answer
         ensures { result ≡ choose 5 (later_candidates (table (T.definitions self.now.finder)) self.now.last c) links }
     {
         if let Some(cell) = self.explicit_of(scalars::base_of(c)) {
-            return Answer { cell, rule: 5, links };
+            return Answer {
+                cell,
+                rule: 5,
+                links,
+            };
         }
         if let Some(cell) = self.explicit_of(scalars::stand_in_of(c)) {
-            return Answer { cell, rule: 6, links };
+            return Answer {
+                cell,
+                rule: 6,
+                links,
+            };
         }
         last_rules(self.last, links)
     }
 
     // Rules 3 to 9, for a character as it stands after rule 2.
+    #[tactic(auto, using(crate::proofs::Choices::rule_walked, crate::proofs::Choices::rule_later))]
     fn rules_from_3(&self, c: u32) -> Answer
         ensures { result ≡ rules_by (table (T.definitions self.now.finder)) self.now.last c }
     {
@@ -84,11 +96,16 @@ impl<T: Finder> Rules<T> {
     }
 
     // The answer for a scalar value, by all the rules.
+    #[tactic(auto, using(basics::proofs::Tests::chosen, crate::proofs::Choices::rule_fits, crate::proofs::Choices::rule_passed_on))]
     pub fn answer_of(&self, c: u32) -> Answer
         ensures { result ≡ lookup_by self.now.charset (table (T.definitions self.now.finder)) self.now.last c }
     {
         if scalars::is_braille(c) {
-            return Answer { cell: (c % 256) as u8, rule: 1, links: 0 };
+            return Answer {
+                cell: (c % 256) as u8,
+                rule: 1,
+                links: 0,
+            };
         }
         let others = self.rules_from_3(scalars::local_of(self.charset, c));
         passed_on(c, others)
@@ -96,6 +113,7 @@ impl<T: Finder> Rules<T> {
 }
 
 // Rules 7 to 9.
+#[tactic(auto, using(basics::proofs::Tests::on_value), unfolding(crate::specs::Rules::choose))]
 fn last_rules(last: LastCells, links: usize) -> Answer
     ensures { result ≡ choose 7 (last_candidates last) links }
 {
@@ -121,6 +139,7 @@ fn last_rules(last: LastCells, links: usize) -> Answer
 }
 
 // Rules 3 and 4, for a walk with that cell at its end.
+#[tactic(auto, using(basics::proofs::Tests::tests))]
 fn walk_rules(cell: u8, links: usize) -> Answer
     ensures { result ≡ walk_answer cell links }
 {
@@ -129,6 +148,7 @@ fn walk_rules(cell: u8, links: usize) -> Answer
 }
 
 // What the other rules answer, as rule 2 passes it on for the character `c`.
+#[tactic(auto, using(crate::proofs::Choices::private_passed, crate::proofs::Choices::other_passed))]
 fn passed_on(c: u32, others: Answer) -> Answer
     requires { others.rule + 16 < 256 }
     ensures { result ≡ passed (is_private c) others }

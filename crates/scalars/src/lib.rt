@@ -68,12 +68,9 @@ const DIFFERENCES: [(u8, u32); 8] = [
 fn character_by(rows: &[(u8, u32)], byte: u8) -> u32
     ensures { result ≡ character_by rows.now byte }
 {
-    for &(of, character) in rows {
-        if of == byte {
-            return character;
-        }
-    }
-    u32::from(byte)
+    rows.iter()
+        .find(|&&(of, _)| of == byte)
+        .map_or(u32::from(byte), |&(_, character)| character)
 }
 
 // The byte of a character by such rows.
@@ -166,19 +163,20 @@ const STAND_INS: [(u32, u32, u32); 10] = [
 fn stands_for(rows: &[(u32, u32, u32)], c: u32) -> Option<u32>
     ensures { result ≡ stands_for rows.now c }
 {
-    for &(first, last, other) in rows {
-        if first <= c && c <= last {
-            return Some(other);
-        }
-    }
-    None
+    rows.iter()
+        .find(|&&(first, last, _)| first <= c && c <= last)
+        .map(|&(_, _, other)| other)
 }
 
 // The base character of `c`; there is none below U+00C0 or above U+00FF.
+#[tactic(auto, unfolding(crate::specs::Characters::stands_for))]
 pub fn base_of(c: u32) -> Option<u32>
     ensures { result ≡ base_of c }
 {
-    stands_for(&BASES, c)
+    match c {
+        0xC0..=0xFF => stands_for(&BASES, c),
+        _ => None,
+    }
 }
 
 // The ASCII stand-in of `c`.

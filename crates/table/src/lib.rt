@@ -32,6 +32,7 @@ fn word_of(m: Meaning) -> u32
 }
 
 // Whether a second word has a good kind and number.
+#[tactic(auto, using(basics::proofs::Tests::tests), unfolding(pairs::specs::Words::is_sound_word))]
 fn is_sound_word(w: u32) -> bool
     ensures { result ≡ is_sound_word w }
 {
@@ -96,6 +97,7 @@ pub fn is_sound_pair(c: u32, w: u32) -> bool
 
 // The bits that words have between them. The walk leaves only at its end, so that it is compiled to take several words
 // at a time.
+#[tactic(auto, using(basics::proofs::Bits::bits_fold))]
 fn bits_of(words: &[u32]) -> u32
     ensures { result ≡ bits_of words.now }
 {

@@ -1,16 +1,13 @@
-use borrow.Author.Rules.{rules}
-use Rattle.lines.proofs.Lines.{end_here, end_on, end_none}
-use mathlib.Core.Path.{refl}
+use Rattle.std.proofs.Common.{rules}
+use Rattle.std.proofs.lemmas.Iterator.{YieldsList-from_slice}
+use Rattle.std.proofs.lemmas.Iterator.Search.{position_from_yields_List}
+use borrow.Author.Tests.{tests}
+use lib.Dec.{eqb}
+use Rattle.lines.specs.Lines.{LF}
+use Rattle.lines.proofs.Lines.{lf_first}
 use Rattle.lines.proofs.line_end.Goals as goal
 
-pub loop-i-init : goal.loop-i-init
-loop-i-init c = (search rules, search rules, refl)
-
-pub returns-then-text-i-eq10 : goal.returns-then-text-i-eq10
-returns-then-text-i-eq10 c = search (end_here, rules)
-
-pub loop-i-preserved : goal.loop-i-preserved
-loop-i-preserved c = (search rules, search rules, search end_on)
-
 pub returns : goal.returns
-returns c = search (end_none, rules)
+returns c =
+    lf_first _ _ _ _ c.requires c.unwrap_or.ensures
+    (position_from_yields_List (λ b. eqb b LF) _ _ c.position.result c.position.ensures.ran (YieldsList-from_slice _ c.iter.ensures.rest) (λ x b q k. search (rules, tests)))

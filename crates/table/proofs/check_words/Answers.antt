@@ -20,10 +20,10 @@ returns-then-not-is_sound_pair c = search (check_next, chosen, not-true)
 pub loop-j-init : goal.loop-j-init
 loop-j-init c =
     let l = c.pairs in
-    (search rules, search rules, rw rest_all, check_next _ _ l.invariant.2 l.invariant.1 (omega arith) (search (chosen, not-false)))
+    (search rules, rw rest_all, check_next _ _ l.invariant.2 l.invariant.1 (omega arith) (search (chosen, not-false)))
 
 pub loop-j-preserved : goal.loop-j-preserved
-loop-j-preserved c = (search rules, search rules, search scan_later, search rules)
+loop-j-preserved c = (search rules, search scan_later, search rules)
 
 pub returns-then-closes_loop : goal.returns-then-closes_loop
 returns-then-closes_loop c = search (check_none, chosen)

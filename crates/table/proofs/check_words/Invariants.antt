@@ -13,11 +13,8 @@ use Rattle.table.proofs.check_words.Given as goal
 -- The pair k is sound by itself, and no pair before j has its character.
 abbrev pub invariant-loop-j : goal.invariant-loop-j
 invariant-loop-j l =
-    (l.j ≤ l.k) × (2 * l.k ≤ length l.words) × (find (definitions l.k l.words) l.c ≡ find (rest l.k l.j l.words) l.c)
-    × (if_fresh (definitions l.k l.words) (definition_of l.c l.w) l.k (check_from (definitions (l.k + 1) l.words) (drop (2 * (l.k + 1)) l.words)) ≡ check_from [] l.words)
-
-abbrev pub decreases-loop-j : goal.decreases-loop-j
-decreases-loop-j l = l.k - l.j
+    (2 * l.k ≤ length l.words) × (find (definitions l.k l.words) l.character ≡ find (rest l.k l.j l.words) l.character)
+    × (if_fresh (definitions l.k l.words) (definition_of l.character l.w) l.k (check_from (definitions (l.k + 1) l.words) (drop (2 * (l.k + 1)) l.words)) ≡ check_from [] l.words)
 
 -- The pairs before k are definitions; the check of the others behind them is the check of all.
 abbrev pub invariant-pairs : goal.invariant-pairs

@@ -1,6 +1,5 @@
-use Rattle.definitions.specs.Effects.{definition_limit}
 use Rattle.pairs.specs.Words.{pair_words}
-use Prim.Native.Nat.{◌*◌, ◌≤◌, ◌-◌}
+use Prim.Native.Nat.{◌*◌}
 use mathlib.Core.Path.{◌≡◌}
 use lib.ListN.{length, drop}
 use Rattle.table.specs.Check.{zero_from}
@@ -8,7 +7,4 @@ use Rattle.table.proofs.zero_from.Given as goal
 
 -- The pairs from `from` to i are zero, so those from i on decide.
 abbrev pub invariant-loop-i : goal.invariant-loop-i
-invariant-loop-i l = (l.i ≤ definition_limit) × (length l.words ≡ pair_words) × (zero_from l.count l.i (drop (2 * l.i) l.words) ≡ zero_from l.count l.from (drop (2 * l.from) l.words))
-
-abbrev pub decreases-loop-i : goal.decreases-loop-i
-decreases-loop-i l = definition_limit - l.i
+invariant-loop-i l = (length l.words ≡ pair_words) × (zero_from l.count l.i (drop (2 * l.i) l.words) ≡ zero_from l.count l.from (drop (2 * l.from) l.words))

@@ -1,8 +1,0 @@
-use Rattle.basics.proofs.Tests.{on_both}
-use Rattle.table.proofs.is_sound_end.Goals as goal
-
-pub returns-then-is_charset : goal.returns-then-is_charset
-returns-then-is_charset c = search on_both
-
-pub returns : goal.returns
-returns c = search on_both
