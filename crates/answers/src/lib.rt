@@ -65,6 +65,7 @@ impl Display for Text {
 }
 
 // The bytes of a buffer, each as two digits in hex behind a blank.
+#[derive(Clone, Copy)]
 pub struct Cells<'a>(pub &'a [u8]);
 
 impl Display for Cells<'_> {

@@ -197,12 +197,7 @@ impl Kind {
 }
 
 // What compiling in an edition and a set answers, without the cells.
-fn compile(
-    edition: u32,
-    charset: u32,
-    text: &[u8],
-    words: &mut [u32],
-) -> Result<usize, Rejection> {
+fn compile(edition: u32, charset: u32, text: &[u8], words: &mut [u32]) -> Result<usize, Rejection> {
     editions::compile(edition, charset, text, words).answer
 }
 
@@ -333,6 +328,7 @@ fn report_answer(number: u32, line: u32) -> Text {
 }
 
 // A case by its fields.
+#[derive(Clone, Copy)]
 pub struct Case<'a> {
     call: &'a [u8],
     text: &'a [u8],

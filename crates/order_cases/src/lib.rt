@@ -58,6 +58,7 @@ impl Order {
 }
 
 // The first words, 16 at most, each behind a blank.
+#[derive(Clone, Copy)]
 struct Front<'a>(&'a [u32]);
 
 impl Display for Front<'_> {

@@ -99,9 +99,7 @@ pub fn left_text(answer: Text, words: &[u32]) -> Text {
     let charset = words[PAIR_WORDS];
     let last = words[PAIR_WORDS + 1];
     let beyond = change(&words[TABLE_WORDS..]);
-    Text::of(format_args!(
-        "{answer} words {pairs} set {charset} {last} beyond {beyond}"
-    ))
+    Text::of(format_args!("{answer} words {pairs} set {charset} {last} beyond {beyond}"))
 }
 
 // What a listing call answers.

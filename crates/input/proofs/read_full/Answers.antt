@@ -14,8 +14,10 @@ reads_more at room n xs ys old mid new within fits p q =
   where
     before : List ℕ
     before = take at xs
+
     behind : List ℕ
     behind = ys ++ post_of at room xs
+
     front : take (at + n) (put_mid at room xs ys) ≡ take at xs ++ take n ys
     front =
         ap (λ k. take (k + n) (before ++ behind)) (sym (length-take-le at xs within))
