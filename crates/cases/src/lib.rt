@@ -2,6 +2,8 @@
 // about. Behind the call stands the local character set, ISO 8859-1 where none is named.
 #![tactic(auto)]
 
+ghost use Rattle.std.specs.Prelude.{◌≤◌};
+
 use answers::{Cells, Text};
 use basics::Refusal;
 use fields::Numbers;
@@ -125,23 +127,29 @@ impl Call {
 }
 
 impl Source {
+    // How many words these are.
+    fn length(self) -> usize
+        ensures { result ≤ 2052 }
+    {
+        match self {
+            Source::Compiled | Source::Lent => TABLE_WORDS,
+            Source::Short => TABLE_WORDS - 1,
+            Source::Beyond => WORDS,
+        }
+    }
+
     // What a call answers of these words.
     fn answer(self, call: Call, charset: u32, text: &[u8], question: &[u8]) -> Text {
         let mut words = [0; WORDS];
         if let Source::Compiled = self {
-            let table = &mut words[..TABLE_WORDS];
-            let _ = compile(PRESENT, charset, text, &mut *table);
-            return call.answer(table, question);
+            let _ = compile(PRESENT, charset, text, &mut words[..TABLE_WORDS]);
+        } else {
+            words[PAIR_WORDS] = charset;
+            // Those beyond a table hold what no table could.
+            words[TABLE_WORDS..].fill(7);
+            fields::put_numbers(&mut words, text);
         }
-        words[PAIR_WORDS] = charset;
-        // Those beyond a table hold what no table could.
-        words[TABLE_WORDS..].fill(7);
-        fields::put_numbers(&mut words, text);
-        match self {
-            Source::Compiled | Source::Lent => call.answer(&words[..TABLE_WORDS], question),
-            Source::Short => call.answer(&words[..TABLE_WORDS - 1], question),
-            Source::Beyond => call.answer(&words, question),
-        }
+        call.answer(&words[..self.length()], question)
     }
 }
 
@@ -243,7 +251,7 @@ fn again_answer(words: &[u32], listing: &[u8], past: &[u8]) -> Text {
     let answer = compile(PRESENT, words[PAIR_WORDS], listing, &mut back);
     let front = replies::counted_text(listing.len(), answer);
     let (table, beyond) = back.split_at(TABLE_WORDS);
-    let left = if *table != words[..TABLE_WORDS] {
+    let left = if table != &words[..TABLE_WORDS] {
         "words other"
     } else if !beyond.iter().all(|word| *word == 7) {
         "beyond other"

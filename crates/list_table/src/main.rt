@@ -7,10 +7,12 @@ use std::io;
 // Words that were just compiled are a table, and every listing has room, so nothing is refused.
 fn write_listing(rt: &impl Print, words: &[u32]) -> io::Result<()> {
     let mut bytes = [0; LISTING_LIMIT];
-    match listing::list_table(words, &mut bytes) {
-        Ok(length) => rt.write_all(&bytes[..length]),
-        Err(_) => Ok(()),
+    if let Ok(length) = listing::list_table(words, &mut bytes)
+        && let Some(listing) = bytes.get(..length)
+    {
+        rt.write_all(listing)?;
     }
+    Ok(())
 }
 
 fn main(rt: HostRuntime) -> io::Result<()> {

@@ -5,7 +5,7 @@ use answers::{Cells, Text};
 use basics::Refused;
 use lines::Rejection;
 use rules::Answer;
-use table::{PAIR_WORDS, TABLE_WORDS};
+use table::PAIR_WORDS;
 
 // What a buffer for a listing holds before the call: a byte that no listing has.
 pub const UNWRITTEN: u8 = b'.';
@@ -92,14 +92,14 @@ fn change(words: &[u32]) -> &'static str {
 // What compiling answers, as a text, and what it leaves in words that all held 7: the pairs of a table, the two words
 // behind them, and those beyond.
 pub fn left_text(answer: Text, words: &[u32]) -> Text {
-    if words.len() < TABLE_WORDS {
-        return Text::of(format_args!("{answer} words {} beyond same", change(words)));
+    match words.split_at_checked(PAIR_WORDS) {
+        Some((pairs, [charset, last, beyond @ ..])) => Text::of(format_args!(
+            "{answer} words {} set {charset} {last} beyond {}",
+            change(pairs),
+            change(beyond)
+        )),
+        _ => Text::of(format_args!("{answer} words {} beyond same", change(words))),
     }
-    let pairs = change(&words[..PAIR_WORDS]);
-    let charset = words[PAIR_WORDS];
-    let last = words[PAIR_WORDS + 1];
-    let beyond = change(&words[TABLE_WORDS..]);
-    Text::of(format_args!("{answer} words {pairs} set {charset} {last} beyond {beyond}"))
 }
 
 // What a listing call answers.

@@ -9,17 +9,17 @@ const BUFFER: usize = 262144;
 
 // A line that is empty or a comment is no case.
 fn run(rt: &impl Print, file: &[u8]) -> io::Result<()> {
-    let mut cases = 0;
-    let mut differ = 0;
+    let mut cases = 0u64;
+    let mut differ = 0u64;
     for (i, line) in file.split(|b| *b == b'\n').enumerate() {
         if lines::is_over(line, 0) {
             continue;
         }
-        cases += 1;
+        cases = cases.saturating_add(1);
         let case = Case::of(line);
         let answer = case.answer();
         if answer.as_bytes() != case.expected {
-            differ += 1;
+            differ = differ.saturating_add(1);
             println!(rt; "line {}: got {answer}", i + 1)?;
         }
     }
