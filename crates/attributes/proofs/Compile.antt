@@ -1,37 +1,38 @@
 -- One line more, and the lines of a text one after another.
-use Prim.Native.Nat.{ℕ, ◌+◌, ◌-◌, ◌*◌, ◌≤◌, ◌<◌}
-use mathlib.Core.Path.{◌≡◌}
-use mathlib.Core.List.{List}
-use native.Mathlib.Omega.{arith}
-use lib.ListN.{length, take}
+use Rattle.std.proofs.Common.{◌≡◌, sym, ℕ, ◌+◌, ◌-◌, ◌≤◌, ◌<◌, List, length, take, Option, None, Some, Result, Ok, Err, arith}
 use borrow.Author.Tests.{lt-ltb}
 use Rattle.basics.specs.declared.Refusal.TheVariants.{TextTooLong, LineTooLong}
 use Rattle.lines.specs.Lines.{without_cr}
-use Rattle.lines.specs.Texts.{text_limit, line_limit, opening_of, Step, stop, rejected, outcome_column}
-use Rattle.lines.proofs.Texts.{Reached, text_first, text_long, run_column}
+use Rattle.lines.specs.Texts.{text_limit, line_limit, opening_of, Step, next, stop, Outcome, rejected, outcome_column, rejection_of}
+use Rattle.lines.specs.Internal.{step_of}
+use Rattle.lines.specs.declared.LineFault.{LineFault}
+use Rattle.lines.specs.declared.Rejection.{Rejection}
+use Rattle.lines.proofs.Texts.{Reached, outcome_of, text_first, text_long, run_column}
 use Rattle.attributes.specs.Cells.{all_unnamed}
-use Rattle.attributes.specs.Compile.{dot_states, read_dot_line, with_dot, dot_step, compiled_attributes}
-use Rattle.attributes.specs.Internal.{DotWithin}
-use Rattle.attributes.specs.declared.State.{State}
+use Rattle.attributes.specs.Compile.{dot_states, read_dot_line, with_dot, with_dot_line, dot_step, compiled_attributes}
 use Rattle.attributes.specs.declared.DotStates.{DotStates}
 use Rattle.attributes.specs.declared.DotLine.{DotLine}
-use Rattle.attributes.specs.declared.DotLine.TheVariants.{Dot}
 
-module _ (read : DotLine) (dot left : ℕ) (state : State) (within : DotWithin read) (q : read ≡ Dot dot state left) where
-  pub dot_within : dot < 8
-  dot_within = rw q at within
+-- read is what was answered of a line, x what the states after it
+module _ (f : DotStates) (line : List ℕ) (n : ℕ) (read : Result (Option DotLine) LineFault) (c : take n line ≡ without_cr line) (e : read ≡ read_dot_line (take n line)) where
+  step_read : {x : Step DotStates} → x ≡ with_dot_line f read → x ≡ dot_step f (without_cr line)
+  unfolding dot_step
+  step_read h = rw (← c, ← e) h
 
-  -- where its place lies
-  pub dot_fits : dot * 2 < 0x10000000000000000
-  dot_fits = omega (arith, dot_within)
+  pub line_skip : (o : Option DotLine) → read ≡ Ok o → o ≡ None → next f ≡ dot_step f (without_cr line)
+  line_skip o q z = step_read (rw (q, z))
 
--- the case k of what was read
-pub on_read : (f : DotStates) {read k : DotLine} {x : Step DotStates} → read ≡ k → x ≡ with_dot f k → x ≡ with_dot f read
-on_read f q h = rw q h
+  pub line_fault : (x : Result DotStates LineFault) (fault : LineFault) → read ≡ Err fault → x ≡ Err fault → step_of x ≡ dot_step f (without_cr line)
+  line_fault x fault q p = step_read (rw (q, p))
 
-pub step_read : (f : DotStates) (line : List ℕ) (n : ℕ) (read : DotLine) (x : Step DotStates) → take n line ≡ without_cr line → read ≡ read_dot_line (take n line) → x ≡ with_dot f read → x ≡ dot_step f (without_cr line)
-unfolding dot_step
-step_read f line n read x c e h = rw (← c, ← e) h
+  pub line_dot : (x : Result DotStates LineFault) (o : Option DotLine) (d : DotLine) → read ≡ Ok o → o ≡ Some d → step_of x ≡ with_dot f d → step_of x ≡ dot_step f (without_cr line)
+  line_dot x o d q z p = step_read (rw (q, z) p)
+
+pub ruleset on_line = (line_fault, line_skip, line_dot)
+
+pub long_text : (text : List ℕ) → text_limit < length text → rejected TextTooLong 0 0 ≡ compiled_attributes text
+unfolding compiled_attributes
+long_text text h = sym (text_long dot_step (dot_states all_unnamed 0) text h)
 
 pub come_first : (text : List ℕ) (f : DotStates) → length text ≤ text_limit → f ≡ dot_states all_unnamed 0 → Reached dot_step text (compiled_attributes text) 0 1 f
 unfolding compiled_attributes
@@ -40,9 +41,10 @@ come_first text f short e = rw e (text_first dot_step (dot_states all_unnamed 0)
 pub no_lines : (f : DotStates) → f ≡ dot_states all_unnamed 0 → f.lines ≤ 0
 no_lines f e = rw e (omega arith)
 
-pub long_text : (text : List ℕ) → text_limit < length text → compiled_attributes text ≡ rejected TextTooLong 0 0
-unfolding compiled_attributes
-long_text text h = text_long dot_step (dot_states all_unnamed 0) text h
+-- what the code answered of a fault
+pub refused_as : (whole : Outcome DotStates) (here : List ℕ) (n : ℕ) (fault : LineFault) (e : Rejection) → e ≡ rejection_of fault here n → whole ≡ outcome_of (rejection_of fault here n)
+    → rejected e.refusal e.line e.column ≡ whole
+refused_as whole here n fault e q h = rw (q, h)
 
 step_long : (f : DotStates) (line : List ℕ) → line_limit < length line → dot_step f line ≡ stop LineTooLong (length line - line_limit)
 unfolding dot_step read_dot_line opening_of

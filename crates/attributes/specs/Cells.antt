@@ -5,7 +5,6 @@ use Rattle.attributes.specs.declared.Attribute.{Attribute}
 use Rattle.attributes.specs.declared.Attribute.TheVariants as A
 use Rattle.attributes.specs.declared.State.{State}
 use Rattle.attributes.specs.declared.State.TheVariants.{Unnamed, On, Off, Always, Never}
-use Rattle.attributes.specs.declared.Place.{Place}
 
 -- the bit of each name
 abbrev pub bit_of : Attribute → ℕ
@@ -29,22 +28,19 @@ is_raised unnamed (Off name) byte = not (is_on name byte)
 is_raised unnamed Always byte = true
 is_raised unnamed Never byte = false
 
--- the dots of some places, the first of them that of dot i + 1, which adds 2^i
-unfoldable pub cell_from : Bool → List Place → ℕ → ℕ → ℕ
+-- the dots of some states, the first of them that of dot i + 1, which adds 2^i
+unfoldable pub cell_from : Bool → List State → ℕ → ℕ → ℕ
 cell_from unnamed [] byte i = 0
-cell_from unnamed (p ∷ ps) byte i = pick (is_raised unnamed p.state byte) (2 ^ i) 0 + cell_from unnamed ps byte (i + 1)
+cell_from unnamed (s ∷ ss) byte i = pick (is_raised unnamed s byte) (2 ^ i) 0 + cell_from unnamed ss byte (i + 1)
 
--- the cell of a byte by the eight places of a table
-abbrev pub cell_by : Bool → List Place → ℕ → ℕ
+-- the cell of a byte by the eight states of a table
+abbrev pub cell_by : Bool → List State → ℕ → ℕ
 cell_by unnamed places byte = cell_from unnamed places byte 0
 
 -- in an attributes table a dot without a line stays down
-abbrev pub attribute_cell : List Place → ℕ → ℕ
+abbrev pub attribute_cell : List State → ℕ → ℕ
 attribute_cell places byte = cell_by false places byte
 
-abbrev pub place : State → Place
-place state = record { state = state }
-
 -- a table with all dots unnamed
-abbrev pub all_unnamed : List Place
-all_unnamed = replicate 8 (place Unnamed)
+abbrev pub all_unnamed : List State
+all_unnamed = replicate 8 Unnamed

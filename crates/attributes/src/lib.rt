@@ -2,29 +2,29 @@
 // of a byte by the states of the dots.
 #![tactic(auto)]
 
-ghost use Rattle.std.specs.Prelude.{◌≡◌, ◌+◌, ◌≤◌, ◌<◌, ◌^◌, length};
-ghost use Rattle.attributes.specs.Cells.{bit_of, is_on, is_raised, cell_by, attribute_cell, place, all_unnamed};
-ghost use Rattle.attributes.specs.Reader.{signed, background_state, named_state, state_of, fixed_state, state_in, is_dot_number, state_at, dot_at, dot_line};
+ghost use Rattle.std.specs.Prelude.{◌≡◌, ◌+◌, ◌≤◌, ◌<◌, length, IfOk, IfSome};
+ghost use Rattle.attributes.specs.Cells.{is_on, is_raised, cell_by, attribute_cell, all_unnamed};
+ghost use Rattle.attributes.specs.Reader.{attribute_of, state_of, fixed_state, state_in, dot_number, operand_word, ended, state_at, dot_at, dot_line};
 ghost use Rattle.attributes.specs.Compile.{is_named, read_dot_line, dot_states, with_dot, dot_step, compiled_attributes, attributes_reply, outcome_places};
-ghost use Rattle.attributes.specs.Internal.{DotWithin};
+ghost use Rattle.attributes.specs.Internal.{DotWithin, WordWithin, text_gives};
 ghost use Rattle.lines.specs.Lines.{without_cr};
 ghost use Rattle.lines.specs.Texts.{text_limit, outcome_column, compiled_reply, compiled_column};
-ghost use Rattle.lines.specs.Internal.{leaves};
+ghost use Rattle.lines.specs.Internal.{step_of};
 
 use basics::Refusal;
-use lines::{Compiled, Opening, Stopped, TEXT_LIMIT};
+use lines::{LineFault, Opening, Rejection, TEXT_LIMIT, Word};
 
 // The eight attribute bits.
 #[derive(Clone, Copy)]
 pub enum Attribute {
-    FgBlue,
-    FgGreen,
-    FgRed,
-    FgBright,
-    BgBlue,
-    BgGreen,
-    BgRed,
-    Blink,
+    FgBlue = 0x01,
+    FgGreen = 0x02,
+    FgRed = 0x04,
+    FgBright = 0x08,
+    BgBlue = 0x10,
+    BgGreen = 0x20,
+    BgRed = 0x40,
+    Blink = 0x80,
 }
 
 // What a table says of a dot: nothing, raised by an attribute that is on or by one that is off, always or never raised.
@@ -37,401 +37,339 @@ pub enum State {
     Never,
 }
 
-// The place of one dot in a compiled attributes table.
+// The states that a table knows: by an attribute alone, or `on` and `off` too.
 #[derive(Clone, Copy)]
-pub struct Place {
-    pub state: State,
+pub enum States {
+    ByAttribute,
+    WithFixed,
 }
 
-// What the attributes compile call answers, with the count of `dot` lines, and the table: the place of dot d is the (d-1)-th.
+// What the attributes compile call answers, with the count of `dot` lines, and the table: the state of dot d is the (d-1)-th.
+// The table stands beside the answer, since a refusal hands one too, with all dots unnamed.
 #[derive(Clone, Copy)]
 pub struct Attributes {
-    pub answer: Compiled,
-    pub places: [Place; 8],
+    pub answer: Result<usize, Rejection>,
+    pub places: [State; 8],
 }
 
-// A state operand as read.
+// A dot (0 to 7) with its state, as read of a line whose word `dot` begins `left` bytes before its end.
 #[derive(Clone, Copy)]
-pub enum StateOperand {
-    Bad,
-    Read(State),
+pub struct DotLine {
+    pub dot: usize,
+    pub state: State,
+    pub left: usize,
 }
 
-// A line as read: at fault, skipped, or a dot (0 to 7) with its state. A place is the number of bytes from the fault, or
-// from the directive word, to the line's end.
-#[derive(Clone, Copy)]
-pub enum DotLine {
-    Fault(Refusal, usize),
-    Skip,
-    Dot(usize, State, usize),
-}
-
-// The places so far, and how many `dot` lines named them.
+// The states so far, and how many `dot` lines named them.
 #[derive(Clone, Copy)]
 pub struct DotStates {
-    pub places: [Place; 8],
+    pub places: [State; 8],
     pub lines: usize,
 }
 
-// What a line leaves: whether it was refused, and the places then.
-#[derive(Clone, Copy)]
-pub struct Stepped {
-    pub stopped: Stopped,
-    pub states: DotStates,
-}
-
-// The bit of an attribute.
-fn bit_of(name: Attribute) -> u8
-    ensures { (result ≡ bit_of name) × (0 < result) }
-{
-    match name {
-        Attribute::FgBlue => 0x01,
-        Attribute::FgGreen => 0x02,
-        Attribute::FgRed => 0x04,
-        Attribute::FgBright => 0x08,
-        Attribute::BgBlue => 0x10,
-        Attribute::BgGreen => 0x20,
-        Attribute::BgRed => 0x40,
-        Attribute::Blink => 0x80,
+impl Attribute {
+    // Whether its bit is on.
+    #[tactic(auto, using(crate::proofs::Cells::bit_on))]
+    fn is_on(self, byte: u8) -> bool
+        ensures { result ≡ is_on self byte }
+    {
+        byte & self as u8 != 0
     }
 }
 
-fn is_on(name: Attribute, byte: u8) -> bool
-    ensures { result ≡ is_on name byte }
-{
-    let bit = bit_of(name);
-    byte / bit % 2 == 1
-}
-
-// Whether a dot of that state is raised; `unnamed` says it of a dot without a line.
-fn is_raised(unnamed: bool, state: State, byte: u8) -> bool
-    ensures { result ≡ is_raised unnamed state byte }
-{
-    match state {
-        State::Unnamed => unnamed,
-        State::On(name) => is_on(name, byte),
-        State::Off(name) => !is_on(name, byte),
-        State::Always => true,
-        State::Never => false,
+impl State {
+    // Whether a dot of that state is raised; `unnamed` says it of a dot without a line.
+    fn is_raised(self, unnamed: bool, byte: u8) -> bool
+        ensures { result ≡ is_raised unnamed self byte }
+    {
+        match self {
+            State::Unnamed => unnamed,
+            State::On(name) => name.is_on(byte),
+            State::Off(name) => !name.is_on(byte),
+            State::Always => true,
+            State::Never => false,
+        }
     }
-}
 
-// The weight of dot `i` + 1.
-fn weight(i: usize) -> u16
-    requires { i < 8 }
-    ensures { result ≡ 2 ^ i }
-{
-    1 << i
+    fn is_named(self) -> bool
+        ensures { result ≡ is_named self }
+    {
+        match self {
+            State::Unnamed => false,
+            _ => true,
+        }
+    }
 }
 
 // The cell of a byte by the states of the dots; `unnamed` says whether a dot without a line is raised.
-pub fn cell_by(unnamed: bool, places: [Place; 8], byte: u8) -> u8
+pub fn cell_by(unnamed: bool, places: [State; 8], byte: u8) -> u8
     ensures { result ≡ cell_by unnamed places byte }
 {
-    let mut cell = 0u16;
-    let mut i = 0;
-    while i < 8 {
-        let here = places[i];
-        let state = here.state;
-        if is_raised(unnamed, state, byte) {
-            cell += weight(i);
+    let mut cell = 0u8;
+    for (i, state) in places.iter().enumerate() {
+        if state.is_raised(unnamed, byte) {
+            cell += 1 << i;
         }
-        i += 1;
     }
-    (cell % 256) as u8
+    cell
 }
 
 // The cell of an attribute byte.
-pub fn attribute_cell(places: [Place; 8], byte: u8) -> u8
+pub fn attribute_cell(places: [State; 8], byte: u8) -> u8
     ensures { result ≡ attribute_cell places byte }
 {
     cell_by(false, places, byte)
 }
 
-// The state that a sign says of a name.
-fn signed_state(sign: u8, name: Attribute) -> StateOperand
-    ensures { result ≡ signed sign name }
-{
-    if sign == b'=' {
-        return StateOperand::Read(State::On(name));
-    }
-    if sign == b'~' {
-        return StateOperand::Read(State::Off(name));
-    }
-    StateOperand::Bad
-}
-
-// The state of a name of the background, or of `blink`.
-fn background_state(sign: u8, name: &[u8]) -> StateOperand
-    ensures { result ≡ background_state sign name.now }
-{
-    if lines::same_bytes(name, b"bg-blue") {
-        return signed_state(sign, Attribute::BgBlue);
-    }
-    if lines::same_bytes(name, b"bg-green") {
-        return signed_state(sign, Attribute::BgGreen);
-    }
-    if lines::same_bytes(name, b"bg-red") {
-        return signed_state(sign, Attribute::BgRed);
-    }
-    if lines::same_bytes(name, b"blink") {
-        return signed_state(sign, Attribute::Blink);
-    }
-    StateOperand::Bad
-}
-
-// The state of any name.
-fn named_state(sign: u8, name: &[u8]) -> StateOperand
-    ensures { result ≡ named_state sign name.now }
+// The attribute of a name. Tests one after another: a `match` on eight texts leaves a goal for each byte where two differ.
+#[tactic(auto, using(basics::proofs::Tests::chosen), unfolding(crate::specs::Reader::attribute_of))]
+fn attribute_of(name: &[u8]) -> Option<Attribute>
+    ensures { result ≡ attribute_of name.now }
 {
     if lines::same_bytes(name, b"fg-blue") {
-        return signed_state(sign, Attribute::FgBlue);
+        return Some(Attribute::FgBlue);
     }
     if lines::same_bytes(name, b"fg-green") {
-        return signed_state(sign, Attribute::FgGreen);
+        return Some(Attribute::FgGreen);
     }
     if lines::same_bytes(name, b"fg-red") {
-        return signed_state(sign, Attribute::FgRed);
+        return Some(Attribute::FgRed);
     }
     if lines::same_bytes(name, b"fg-bright") {
-        return signed_state(sign, Attribute::FgBright);
+        return Some(Attribute::FgBright);
     }
-    background_state(sign, name)
+    if lines::same_bytes(name, b"bg-blue") {
+        return Some(Attribute::BgBlue);
+    }
+    if lines::same_bytes(name, b"bg-green") {
+        return Some(Attribute::BgGreen);
+    }
+    if lines::same_bytes(name, b"bg-red") {
+        return Some(Attribute::BgRed);
+    }
+    if lines::same_bytes(name, b"blink") {
+        return Some(Attribute::Blink);
+    }
+    None
 }
 
 // A whole word as a sign and a name.
-fn state_of(w: &[u8]) -> StateOperand
+#[tactic(auto, using(crate::proofs::Reader::state_names))]
+fn state_of(w: &[u8]) -> Option<State>
     ensures { result ≡ state_of w.now }
 {
-    if w.len() == 0 {
-        return StateOperand::Bad;
+    let (sign, name) = w.split_first()?;
+    let attribute = attribute_of(name)?;
+    match sign {
+        b'=' => Some(State::On(attribute)),
+        b'~' => Some(State::Off(attribute)),
+        _ => None,
     }
-    named_state(w[0], &w[1..])
 }
 
 // The same, or `on` or `off`.
-fn fixed_state(w: &[u8]) -> StateOperand
+#[tactic(auto, using(basics::proofs::Tests::chosen), unfolding(crate::specs::Reader::fixed_state))]
+fn fixed_state(w: &[u8]) -> Option<State>
     ensures { result ≡ fixed_state w.now }
 {
     if lines::same_bytes(w, b"on") {
-        return StateOperand::Read(State::Always);
+        return Some(State::Always);
     }
     if lines::same_bytes(w, b"off") {
-        return StateOperand::Read(State::Never);
+        return Some(State::Never);
     }
     state_of(w)
 }
 
-// A whole word as a state; `fixed` says whether `on` and `off` are states.
-fn state_in(fixed: bool, w: &[u8]) -> StateOperand
-    ensures { result ≡ state_in fixed w.now }
+// A whole word as a state that a table knows.
+fn state_in(states: States, w: &[u8]) -> Option<State>
+    ensures { result ≡ state_in states w.now }
 {
-    if fixed {
-        return fixed_state(w);
+    match states {
+        States::ByAttribute => state_of(w),
+        States::WithFixed => fixed_state(w),
     }
-    state_of(w)
 }
 
-// Whether a word is one digit 1 to 8.
-fn is_dot_number(w: &[u8]) -> bool
-    ensures { result ≡ is_dot_number w.now }
+// A word as the number of a dot, from 0 on.
+#[tactic(auto, using(basics::proofs::Tests::tests), unfolding(crate::specs::Reader::dot_number))]
+fn dot_number(w: &[u8]) -> Option<usize>
+    ensures value { result ≡ dot_number w.now }
+    ensures eight { IfSome result (λ dot. dot < 8) }
 {
-    if w.len() != 1 {
-        return false;
+    match w {
+        [digit @ b'1'..=b'8'] => Some(usize::from(*digit - b'1')),
+        _ => None,
     }
-    if w[0] < b'1' {
-        return false;
-    }
-    w[0] <= b'8'
 }
 
-// A line from behind the dot number on.
-fn state_at(fixed: bool, line: &[u8], dot: usize, at: usize, left: usize) -> DotLine
+// The next word from `at` on, as an operand that has to be there.
+#[tactic(auto, using(crate::proofs::Reader::word_there, crate::proofs::Reader::word_missing))]
+pub fn operand_word(line: &[u8], at: usize) -> Result<Word, LineFault>
     requires { at ≤ length line.now }
-    ensures { result ≡ state_at fixed line.now dot at left }
+    ensures value { result ≡ operand_word line.now at }
+    ensures within { IfOk result (λ w. WordWithin line.now w) }
 {
     let w = lines::next_word(line, at);
-    let start = w.start;
-    let end = w.end;
-    if start == end {
-        return DotLine::Fault(Refusal::MissingOperand, 0);
+    if w.start == w.end {
+        return Err(LineFault {
+            refusal: Refusal::MissingOperand,
+            left: 0,
+        });
     }
-    match state_in(fixed, &line[start..end]) {
-        StateOperand::Bad => DotLine::Fault(Refusal::BadState, line.len() - start),
-        StateOperand::Read(state) => {
-            if lines::is_over(line, end) {
-                return DotLine::Dot(dot, state, left);
-            }
-            let more = lines::next_word(line, end);
-            DotLine::Fault(Refusal::TrailingText, line.len() - more.start)
-        }
-    }
+    Ok(w)
 }
 
-// A line from behind the word `dot` on, in a table where `on` and `off` are states (`fixed`) or are not.
-pub fn dot_at(fixed: bool, line: &[u8], at: usize, left: usize) -> DotLine
+// Behind the last operand: nothing, or a comment.
+#[tactic(auto, using(crate::proofs::Reader::ended_there, crate::proofs::Reader::ended_by_text))]
+pub fn ended(line: &[u8], at: usize) -> Result<(), LineFault>
     requires { at ≤ length line.now }
-    ensures value { result ≡ dot_at fixed line.now at left }
-    ensures dot_within { DotWithin result }
+    ensures { result ≡ ended line.now at }
 {
+    if lines::is_over(line, at) {
+        return Ok(());
+    }
     let w = lines::next_word(line, at);
-    let start = w.start;
-    let end = w.end;
-    if start == end {
-        return DotLine::Fault(Refusal::MissingOperand, 0);
-    }
-    if !is_dot_number(&line[start..end]) {
-        return DotLine::Fault(Refusal::BadDots, line.len() - start);
-    }
-    state_at(fixed, line, (line[start] - b'1') as usize, end, left)
+    Err(LineFault {
+        refusal: Refusal::TrailingText,
+        left: line.len() - w.start,
+    })
+}
+
+// The state at the end of a line, from behind the dot number on.
+#[tactic(auto, using(basics::proofs::Tests::on_result, basics::proofs::Tests::on_value), unfolding(crate::specs::Reader::state_at))]
+fn state_at(states: States, line: &[u8], at: usize) -> Result<State, LineFault>
+    requires { at ≤ length line.now }
+    ensures { result ≡ state_at states line.now at }
+{
+    let w = operand_word(line, at)?;
+    let Some(state) = state_in(states, &line[w.start..w.end]) else {
+        return Err(LineFault {
+            refusal: Refusal::BadState,
+            left: line.len() - w.start,
+        });
+    };
+    ended(line, w.end)?;
+    Ok(state)
+}
+
+// A line from behind the word `dot` on, in a table that knows these states.
+#[tactic(auto, using(basics::proofs::Tests::on_result, basics::proofs::Tests::on_value), unfolding(crate::specs::Reader::dot_at))]
+pub fn dot_at(states: States, line: &[u8], at: usize, left: usize) -> Result<DotLine, LineFault>
+    requires { at ≤ length line.now }
+    ensures value { result ≡ dot_at states line.now at left }
+    ensures dot_within { IfOk result (λ d. DotWithin d) }
+{
+    let w = operand_word(line, at)?;
+    let Some(dot) = dot_number(&line[w.start..w.end]) else {
+        return Err(LineFault {
+            refusal: Refusal::BadDots,
+            left: line.len() - w.start,
+        });
+    };
+    let state = state_at(states, line, w.end)?;
+    Ok(DotLine { dot, state, left })
 }
 
 // A line that is no comment, from its first word on.
-fn dot_line(line: &[u8]) -> DotLine
+#[tactic(auto, using(crate::proofs::Reader::first_word, basics::proofs::Tests::chosen))]
+fn dot_line(line: &[u8]) -> Result<DotLine, LineFault>
     ensures value { result ≡ dot_line line.now }
-    ensures dot_within { DotWithin result }
+    ensures dot_within { IfOk result (λ d. DotWithin d) }
 {
     let w = lines::next_word(line, 0);
-    let start = w.start;
-    let end = w.end;
-    let left = line.len() - start;
-    if lines::same_bytes(&line[start..end], b"dot") {
-        return dot_at(false, line, end, left);
+    let left = line.len() - w.start;
+    if lines::same_bytes(&line[w.start..w.end], b"dot") {
+        return dot_at(States::ByAttribute, line, w.end, left);
     }
-    DotLine::Fault(Refusal::UnknownDirective, left)
+    Err(LineFault {
+        refusal: Refusal::UnknownDirective,
+        left,
+    })
 }
 
-// A whole line, without its end.
-fn read_dot_line(line: &[u8]) -> DotLine
+// A whole line, without its end: a dot with its state, or nothing.
+#[tactic(auto, using(lines::proofs::Openings::on_opening, basics::proofs::Tests::on_result), unfolding(crate::specs::Compile::read_dot_line))]
+fn read_dot_line(line: &[u8]) -> Result<Option<DotLine>, LineFault>
     ensures value { result ≡ read_dot_line line.now }
-    ensures dot_within { DotWithin result }
+    ensures dot_within { IfOk result (λ read. IfSome read (λ d. DotWithin d)) }
 {
-    match lines::open_line(line) {
-        Opening::Fault(refusal, left) => DotLine::Fault(refusal, left),
-        Opening::Skip => DotLine::Skip,
-        Opening::Directive => dot_line(line),
+    match lines::open_line(line)? {
+        Opening::Skip => Ok(None),
+        Opening::Directive => Ok(Some(dot_line(line)?)),
     }
 }
 
-fn is_named(state: State) -> bool
-    ensures { result ≡ is_named state }
-{
-    match state {
-        State::Unnamed => false,
-        State::On(_) => true,
-        State::Off(_) => true,
-        State::Always => true,
-        State::Never => true,
+impl DotStates {
+    // Before the first line: no dot has one.
+    pub fn new() -> DotStates
+        ensures { result ≡ dot_states all_unnamed 0 }
+    {
+        DotStates {
+            places: [State::Unnamed; 8],
+            lines: 0,
+        }
     }
-}
 
-// Before the first line: no dot has one.
-pub fn no_states() -> DotStates
-    ensures { result ≡ dot_states all_unnamed 0 }
-{
-    DotStates {
-        places: [Place {
-            state: State::Unnamed,
-        }; 8],
-        lines: 0,
+    // The states with a dot's line more, unless that dot has one.
+    pub fn with_dot(mut self, read: DotLine) -> Result<DotStates, LineFault>
+        requires dot_within { DotWithin read }
+        requires few_lines { self.lines < text_limit }
+        ensures states_value { step_of result ≡ with_dot self read }
+        ensures lines_bound { IfOk result (λ f. f.lines ≤ self.lines + 1) }
+    {
+        if self.places[read.dot].is_named() {
+            return Err(LineFault {
+                refusal: Refusal::AlreadyDefined,
+                left: read.left,
+            });
+        }
+        self.places[read.dot] = read.state;
+        self.lines += 1;
+        Ok(self)
     }
-}
 
-// The state with a dot's line more, unless that dot has one.
-pub fn with_dot(f: DotStates, read: DotLine) -> Stepped
-    requires { (DotWithin read) × (f.lines < text_limit) }
-    ensures states_value { leaves result.stopped result.states ≡ with_dot f read }
-    ensures lines_bound { result.states.lines ≤ f.lines + 1 }
-{
-    match read {
-        DotLine::Fault(refusal, left) => Stepped {
-            stopped: Stopped::By(refusal, left),
-            states: f,
-        },
-        DotLine::Skip => Stepped {
-            stopped: Stopped::No,
-            states: f,
-        },
-        DotLine::Dot(dot, state, left) => {
-            let mut places = f.places;
-            let old = places[dot];
-            let before = old.state;
-            if is_named(before) {
-                return Stepped {
-                    stopped: Stopped::By(Refusal::AlreadyDefined, left),
-                    states: f,
-                };
-            }
-            places[dot] = Place { state };
-            Stepped {
-                stopped: Stopped::No,
-                states: DotStates {
-                    places,
-                    lines: f.lines + 1,
-                },
-            }
+    // The states after one line more, its LF not in it.
+    #[tactic(auto, using(crate::proofs::Compile::on_line))]
+    fn after(self, line: &[u8]) -> Result<DotStates, LineFault>
+        requires { self.lines < text_limit }
+        ensures states_value { step_of result ≡ dot_step self (without_cr line.now) }
+        ensures lines_bound { IfOk result (λ f. f.lines ≤ self.lines + 1) }
+    {
+        let n = lines::trimmed(line);
+        match read_dot_line(&line[..n])? {
+            None => Ok(self),
+            Some(read) => self.with_dot(read),
         }
     }
 }
 
-// The state after one line more, its LF not in it.
-fn dot_step(f: DotStates, line: &[u8]) -> Stepped
-    requires { f.lines < text_limit }
-    ensures states_value { leaves result.stopped result.states ≡ dot_step f (without_cr line.now) }
-    ensures lines_bound { result.states.lines ≤ f.lines + 1 }
+// Reads the lines of a text, up to the first that is refused.
+fn read_text(text: &[u8]) -> Result<DotStates, Rejection>
+    ensures { text_gives result ≡ compiled_attributes text.now }
 {
-    let n = lines::trimmed(line);
-    with_dot(f, read_dot_line(&line[..n]))
-}
-
-// A refused table: all dots unnamed.
-fn refused_table(refusal: Refusal, line: usize, column: usize) -> Attributes
-    ensures { (result.answer ≡ Compiled.Refused refusal line column) × (result.places ≡ all_unnamed) }
-{
-    let none = no_states();
-    let places = none.places;
-    Attributes {
-        answer: Compiled::Refused {
-            refusal,
-            line,
-            column,
-        },
-        places,
+    if TEXT_LIMIT < text.len() {
+        return Err(Rejection {
+            refusal: Refusal::TextTooLong,
+            line: 0,
+            column: 0,
+        });
     }
-}
-
-// Reads the lines of a text; a refused line leaves all dots unnamed.
-fn read_lines(text: &[u8]) -> Attributes
-    requires { length text.now ≤ text_limit }
-    ensures answer { compiled_reply result.answer ≡ attributes_reply (compiled_attributes text.now) }
-    ensures column { compiled_column result.answer ≡ outcome_column (compiled_attributes text.now) }
-    ensures places { result.places ≡ outcome_places (compiled_attributes text.now) }
-{
-    let mut states = no_states();
+    let mut states = DotStates::new();
     let mut line = 1;
     let mut at = 0;
+    // A cursor: where a line ends says where the next one begins.
     while at < text.len() {
         let end = lines::line_end(text, at);
         let here = &text[at..end];
-        let next = dot_step(states, here);
-        let stopped = next.stopped;
-        match stopped {
-            Stopped::By(refusal, left) => {
-                let column = lines::column_of(here, left);
-                return refused_table(refusal, line, column);
-            }
-            Stopped::No => {
-                states = next.states;
-            }
+        match states.after(here) {
+            Ok(next) => states = next,
+            Err(fault) => return Err(fault.in_line(here, line)),
         }
         at = end + 1;
         line += 1;
     }
-    let places = states.places;
-    Attributes {
-        answer: Compiled::Accepted(states.lines),
-        places,
-    }
+    Ok(states)
 }
 
 // Compiles an attributes text: any bytes.
@@ -440,8 +378,21 @@ pub fn compile_attributes(text: &[u8]) -> Attributes
     ensures column { compiled_column result.answer ≡ outcome_column (compiled_attributes text.now) }
     ensures places { result.places ≡ outcome_places (compiled_attributes text.now) }
 {
-    if TEXT_LIMIT < text.len() {
-        return refused_table(Refusal::TextTooLong, 0, 0);
+    match read_text(text) {
+        Ok(states) => {
+            let places = states.places;
+            Attributes {
+                answer: Ok(states.lines),
+                places,
+            }
+        }
+        Err(rejection) => {
+            let states = DotStates::new();
+            let places = states.places;
+            Attributes {
+                answer: Err(rejection),
+                places,
+            }
+        }
     }
-    read_lines(text)
 }

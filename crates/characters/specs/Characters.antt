@@ -1,10 +1,11 @@
--- The character operand and the byte operand: a whole word to a character, and to a byte of a local character set. Number 0x110000
--- stands for none, and is no scalar value.
-use Rattle.std.specs.Prelude.{ℕ, ◌+◌, ◌-◌, ◌*◌, ◌%◌, Bool, ◌&&◌, ◌||◌, List, [], ◌∷◌, length, get_or, drop, ltb, leb, eqb}
-use Rattle.basics.specs.Choice.{pick, if_character}
-use Rattle.basics.specs.declared.Maybe.{Maybe}
-use Rattle.basics.specs.declared.Maybe.TheVariants.{Nothing, Character}
+-- The character operand and the byte operand: a whole word to a character, and to a byte of a local character set.
+-- Number 0x110000 stands for none, and is no scalar value.
+use Rattle.std.specs.Prelude.{ℕ, ◌+◌, ◌-◌, ◌*◌, ◌%◌, Bool, ◌&&◌, ◌||◌, ltb, leb, eqb}
+use Rattle.std.specs.Prelude.{List, [], ◌∷◌, length, get_or, drop, Option, None, Some}
+use Rattle.basics.specs.Choice.{pick, if_some}
 use Rattle.scalars.specs.Characters.{is_scalar, as_byte, local_character, local_byte, local_of}
+use Rattle.characters.specs.declared.OperandKind.{OperandKind}
+use Rattle.characters.specs.declared.OperandKind.TheVariants.{Character, Byte}
 
 abbrev pub no_number : ℕ
 no_number = 0x110000
@@ -36,7 +37,8 @@ unfoldable pub plain_of : List ℕ → ℕ
 plain_of w =
     pick (eqb (length w) 1) (get_or w 0 0)
     (pick (eqb (length w) 2 && leb 0xC0 (get_or w 0 0)) (get_or w 0 0 % 32 * 64 + get_or w 1 0 % 64)
-    (pick (eqb (length w) 3 && leb 0xE0 (get_or w 0 0)) (get_or w 0 0 % 16 * 4096 + get_or w 1 0 % 64 * 64 + get_or w 2 0 % 64)
+    (pick (eqb (length w) 3 && leb 0xE0 (get_or w 0 0))
+    (get_or w 0 0 % 16 * 4096 + get_or w 1 0 % 64 * 64 + get_or w 2 0 % 64)
     (pick (eqb (length w) 4 && leb 0xF0 (get_or w 0 0))
     (get_or w 0 0 % 8 * 262144 + get_or w 1 0 % 64 * 4096 + get_or w 2 0 % 64 * 64 + get_or w 3 0 % 64)
     no_number)))
@@ -56,7 +58,8 @@ short_of b =
     no_number))))))))
 
 -- \o with three octal digits, \x or \X with two hex digits, \u with four, \U with eight:
--- the base, by the byte after the backslash and the length of the whole word; 0, in which nothing is a digit, for any other
+-- the base, by the byte after the backslash and the length of the whole word; 0, in which nothing is a digit, for
+-- any other
 unfoldable pub radix_of : ℕ → ℕ → ℕ
 radix_of b n =
     pick (eqb b 111 && eqb n 5) 8
@@ -74,12 +77,12 @@ word_number w =
     (plain_of w)
 
 -- the character of a whole word: it must be a Unicode scalar value
-unfoldable pub character_of : List ℕ → Maybe
-character_of w = pick (is_scalar (word_number w)) (Character (word_number w)) Nothing
+unfoldable pub character_of : List ℕ → Option ℕ
+character_of w = pick (is_scalar (word_number w)) (Some (word_number w)) None
 
 -- a character operand stands for that character, one of the private row for its local character
-unfoldable pub operand_of : ℕ → List ℕ → Maybe
-operand_of charset w = if_character (character_of w) Nothing (λ c. Character (local_of charset c))
+unfoldable pub operand_of : ℕ → List ℕ → Option ℕ
+operand_of charset w = if_some (character_of w) None (λ c. Some (local_of charset c))
 
 abbrev pub is_escape : List ℕ → Bool
 is_escape w = eqb (get_or w 0 0) backslash
@@ -88,12 +91,18 @@ is_escape w = eqb (get_or w 0 0) backslash
 abbrev pub is_unicode_escape : List ℕ → Bool
 is_unicode_escape w = is_escape w && (eqb (get_or w 1 0) 117 || eqb (get_or w 1 0) 85)
 
--- the byte of a whole word: an escape is that byte in every set, a character written as itself the byte that the set has for it
-unfoldable pub byte_of : ℕ → List ℕ → Maybe
-byte_of charset w = if_character (character_of w) Nothing (λ n. pick (is_escape w) (as_byte n) (local_byte charset n))
+-- the byte of a whole word: an escape is that byte in every set, a character written as itself the byte that the set
+-- has for it
+unfoldable pub byte_of : ℕ → List ℕ → Option ℕ
+byte_of charset w = if_some (character_of w) None (λ n. pick (is_escape w) (as_byte n) (local_byte charset n))
 
 -- a byte operand stands for the character that the set has for its byte; \u and \U may not stand in it
-unfoldable pub byte_character_of : ℕ → List ℕ → Maybe
+unfoldable pub byte_character_of : ℕ → List ℕ → Option ℕ
 byte_character_of charset w =
-    pick (is_unicode_escape w) Nothing
-    (if_character (byte_of charset w) Nothing (λ byte. Character (local_character charset byte)))
+    pick (is_unicode_escape w) None
+    (if_some (byte_of charset w) None (λ byte. Some (local_character charset byte)))
+
+-- an operand of either kind
+abbrev pub word_value : OperandKind → ℕ → List ℕ → Option ℕ
+word_value Character charset w = operand_of charset w
+word_value Byte charset w = byte_character_of charset w

@@ -1,126 +1,101 @@
 // Dots from the position of their first byte on: a cell, bare or in parentheses.
 #![tactic(auto)]
 
-ghost use Rattle.std.specs.Prelude.{◌≡◌, ◌+◌, ◌%◌, ◌/◌, ◌≤◌, ◌<◌, length, drop};
-ghost use Rattle.basics.specs.Choice.{pick};
-ghost use Rattle.dots.specs.Dots.{raise_by, raise, raise_inside, ends_at, digits_at, inside_at, cell_at, dots_at};
+ghost use Rattle.std.specs.Prelude.{◌≡◌, ◌≤◌, ◌<◌, length, drop};
+ghost use Rattle.dots.specs.Dots.{raise, raise_inside, ends_at, digits_at, inside_at, cell_at, dots_at};
 ghost use Rattle.dots.specs.Internal.{CellWithin};
 
-use lines::is_blank;
+use lines::{Parsed, is_blank};
 
-// Dots from a position on: the cell and the position after them, or bad dots.
-#[derive(Clone, Copy)]
-pub enum CellRead {
-    Bad,
-    Read(u8, usize),
-}
-
-// A cell with one dot more, or none where that dot is up already or is no dot.
-#[derive(Clone, Copy)]
-pub enum Raised {
-    Not,
-    To(u8),
-}
-
-// The cell with the dot of that weight raised.
-fn raise_by(cell: u8, weight: u8) -> Raised
-    requires { (0 < weight) × (cell / weight % 2 ≡ 0 → cell + weight < 256) }
-    ensures { result ≡ raise_by cell weight }
-{
-    if cell / weight % 2 == 0 {
-        return Raised::To(cell + weight);
-    }
-    Raised::Not
-}
-
-// The cell with the dot of the digit `b` raised.
-fn raise_dot(cell: u8, b: u8) -> Raised
+// The cell with the dot of the digit `b` raised, or none where that dot is up already or `b` is no such digit.
+#[tactic(auto, using(crate::proofs::Cells::raised))]
+fn raise(cell: u8, b: u8) -> Option<u8>
     ensures { result ≡ raise cell b }
 {
     match b {
-        b'1' => raise_by(cell, 1),
-        b'2' => raise_by(cell, 2),
-        b'3' => raise_by(cell, 4),
-        b'4' => raise_by(cell, 8),
-        b'5' => raise_by(cell, 16),
-        b'6' => raise_by(cell, 32),
-        b'7' => raise_by(cell, 64),
-        b'8' => raise_by(cell, 128),
-        _ => Raised::Not,
+        b'1'..=b'8' => {
+            let weight = 1 << (b - b'1');
+            if cell / weight % 2 == 0 {
+                Some(cell + weight)
+            } else {
+                None
+            }
+        }
+        _ => None,
     }
 }
 
 // The cell after one byte in parentheses.
-fn raise_inside(cell: u8, b: u8) -> Raised
+#[tactic(auto, using(basics::proofs::Tests::chosen), unfolding(crate::specs::Dots::raise_inside))]
+fn raise_inside(cell: u8, b: u8) -> Option<u8>
     ensures { result ≡ raise_inside cell b }
 {
     if is_blank(b) {
-        return Raised::To(cell);
+        Some(cell)
+    } else {
+        raise(cell, b)
     }
-    raise_dot(cell, b)
 }
 
 // The operand ends at `i`, where whitespace or the line's end has to be.
-fn ends_at(line: &[u8], i: usize, cell: u8) -> CellRead
+#[tactic(auto, using(crate::proofs::Cells::ends_by))]
+fn ends_at(line: &[u8], i: usize, cell: u8) -> Option<Parsed<u8>>
     requires { i ≤ length line.now }
     ensures value { result ≡ ends_at (drop i line.now) i cell }
     ensures cell_within { CellWithin result (length line.now) }
 {
-    if i < line.len() {
-        if is_blank(line[i]) {
-            return CellRead::Read(cell, i);
-        }
-        return CellRead::Bad;
+    if i < line.len() && !is_blank(line[i]) {
+        return None;
     }
-    CellRead::Read(cell, i)
+    Some(Parsed {
+        value: cell,
+        after: i,
+    })
 }
 
 // Digits from `at` on, to whitespace or the line's end.
-fn digits_at(line: &[u8], at: usize) -> CellRead
+#[tactic(auto, using(crate::proofs::Cells::digits_by))]
+fn digits_at(line: &[u8], at: usize) -> Option<Parsed<u8>>
     requires { at ≤ length line.now }
     ensures value { result ≡ digits_at (drop at line.now) at 0 }
     ensures cell_within { CellWithin result (length line.now) }
 {
-    let mut cell = 0u8;
-    let mut i = at;
-    while i < line.len() {
-        let b = line[i];
-        if is_blank(b) {
-            return CellRead::Read(cell, i);
+    let mut cell = 0;
+    for i in at..line.len() {
+        if is_blank(line[i]) {
+            return Some(Parsed {
+                value: cell,
+                after: i,
+            });
         }
-        let Raised::To(more) = raise_dot(cell, b) else {
-            return CellRead::Bad;
-        };
-        cell = more;
-        i += 1;
+        cell = raise(cell, line[i])?;
     }
-    CellRead::Read(cell, i)
+    Some(Parsed {
+        value: cell,
+        after: line.len(),
+    })
 }
 
 // Digits and whitespace from `at` on, to the closing parenthesis.
-fn inside_at(line: &[u8], at: usize) -> CellRead
+#[tactic(auto, using(crate::proofs::Cells::inside_by))]
+fn inside_at(line: &[u8], at: usize) -> Option<Parsed<u8>>
     requires { at ≤ length line.now }
     ensures value { result ≡ inside_at (drop at line.now) at 0 }
     ensures cell_within { CellWithin result (length line.now) }
 {
-    let mut cell = 0u8;
-    let mut i = at;
-    while i < line.len() {
-        let b = line[i];
-        if b == b')' {
+    let mut cell = 0;
+    for i in at..line.len() {
+        if line[i] == b')' {
             return ends_at(line, i + 1, cell);
         }
-        let Raised::To(more) = raise_inside(cell, b) else {
-            return CellRead::Bad;
-        };
-        cell = more;
-        i += 1;
+        cell = raise_inside(cell, line[i])?;
     }
-    CellRead::Bad
+    None
 }
 
-// A cell whose first byte stands at `at`.
-fn cell_at(line: &[u8], at: usize) -> CellRead
+// A cell whose first byte stands at `at`: `0`, or digits.
+#[tactic(auto, using(basics::proofs::Tests::tests), unfolding(crate::specs::Dots::cell_at))]
+pub fn cell_at(line: &[u8], at: usize) -> Option<Parsed<u8>>
     requires { at < length line.now }
     ensures value { result ≡ cell_at line.now at }
     ensures cell_within { CellWithin result (length line.now) }
@@ -131,16 +106,15 @@ fn cell_at(line: &[u8], at: usize) -> CellRead
     digits_at(line, at)
 }
 
-// Dots whose first byte stands at `at`; in parentheses only where `parentheses` holds.
-pub fn dots_at(line: &[u8], at: usize, parentheses: bool) -> CellRead
+// Dots whose first byte stands at `at`: a cell, or digits in parentheses.
+#[tactic(auto, using(basics::proofs::Tests::tests), unfolding(crate::specs::Dots::dots_at))]
+pub fn dots_at(line: &[u8], at: usize) -> Option<Parsed<u8>>
     requires { at < length line.now }
-    ensures value { result ≡ pick parentheses (dots_at line.now at) (cell_at line.now at) }
+    ensures value { result ≡ dots_at line.now at }
     ensures cell_within { CellWithin result (length line.now) }
 {
-    if parentheses {
-        if line[at] == b'(' {
-            return inside_at(line, at + 1);
-        }
+    if line[at] == b'(' {
+        return inside_at(line, at + 1);
     }
     cell_at(line, at)
 }

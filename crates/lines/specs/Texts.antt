@@ -1,5 +1,5 @@
--- A text is read line by line; the first line that is refused decides. How a line changes the state is a parameter. And what a
--- compile call answers, for every kind of table.
+-- A text is read line by line; the first line that is refused decides. How a line changes the state is a parameter.
+-- And what a compile call answers, for every kind of table.
 use Rattle.std.specs.Prelude.{ℕ, ◌+◌, ◌-◌, List, [], ◌∷◌, length, ltb, Result, Ok, Err}
 use Rattle.basics.specs.Choice.{pick}
 use Rattle.basics.specs.Refusals.{number_of, Reply, answered, refused}
@@ -93,4 +93,5 @@ compiled_column (Err e) = e.column
 
 -- a fault by its place in the text, where the line with its CR, if it has one, and its number are given
 abbrev pub rejection_of : LineFault → List ℕ → ℕ → Rejection
-rejection_of fault line n = record { refusal = fault.refusal; line = n; column = column_of (without_cr line) fault.left }
+rejection_of fault line n =
+    record { refusal = fault.refusal; line = n; column = column_of (without_cr line) fault.left }

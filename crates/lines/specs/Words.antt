@@ -8,7 +8,7 @@ use Rattle.lines.specs.declared.Word.{Word}
 unfoldable pub is_blank : ℕ → Bool
 is_blank b = eqb b 32 || eqb b 9
 
--- of the bytes that are left, the first of them at i: the place of the first that is whitespace (or is none), or the end
+-- of the bytes that are left, the first of them at i: where the first is that is whitespace (or is none), or the end
 unfoldable pub first_from : Bool → List ℕ → ℕ → ℕ
 first_from blank [] i = i
 first_from blank (b ∷ bs) i =

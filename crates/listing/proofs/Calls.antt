@@ -1,51 +1,34 @@
 -- What the listing call answers and writes, as its tests and calls decide it.
-use Prim.Native.Nat.{ℕ, ◌≤◌, ◌<◌}
-use mathlib.Core.Path.{◌≡◌}
-use mathlib.Core.List.{List}
-use lib.ListN.{length}
+use Rattle.std.specs.Prelude.{ℕ, ◌≤◌, ◌<◌, ◌*◌, ◌≡◌, List, length}
+use Rattle.std.proofs.Common.{sym, arith}
 use borrow.Author.Tests.{lt-ltb, le-ltb}
-use Rattle.basics.proofs.Tests.{told}
-use Rattle.basics.specs.declared.Refusal.TheVariants.{ShortSlice, NotTable}
-use Rattle.basics.specs.Buffers.{over}
+use Rattle.basics.specs.Refusals.{answered, refused}
+use Rattle.definitions.specs.declared.Definition.{Definition}
 use Rattle.definitions.specs.Effects.{definition_limit}
-use Rattle.pairs.specs.Words.{table_words, definitions}
-use Rattle.table.specs.Check.{check_of}
-use Rattle.table.specs.declared.Checked.{Checked}
-use Rattle.table.specs.declared.Checked.TheVariants.{Sound, FaultAt}
-use Rattle.table.proofs.Readback.{lent}
-use Rattle.table.proofs.Lent.{lent_short, lent_fault, lent_sound}
-use Rattle.listing.specs.declared.Listed.TheVariants.{Length, Refused}
-use Rattle.listing.specs.Listing.{listing, listing_plan, Lists}
+use Rattle.definitions.proofs.Admission.{admits_limit}
+use Rattle.pairs.specs.Words.{definitions}
+use Rattle.pairs.proofs.Scan.{definitions_length}
+use Rattle.table.specs.Check.{lent_table}
+use Rattle.table.proofs.Readback.{lent_admits}
+use Rattle.listing.specs.Listing.{listing, listing_plan}
 
-module _ (ws old : List ℕ) where
-  pub list_short : length ws < table_words → Lists ws old (Refused ShortSlice 0) old
+-- the plan by what the words are
+module _ (ws : List ℕ) (room : ℕ) where
+  pub plan_refused : (number place : ℕ) → refused number place ≡ lent_table ws → listing_plan ws room ≡ refused number place
   unfolding listing_plan
-  list_short h = let e = lent_short ws h in record { answer = rw e; bytes = rw e }
+  plan_refused number place q = rw (← q)
 
-  module _ {r : Checked} (long : table_words ≤ length ws) (p : r ≡ check_of ws) where
-    pub list_fault : {pair : ℕ} → r ≡ FaultAt pair → Lists ws old (Refused NotTable pair) old
+  module _ (ds : List Definition) (q : answered ds ≡ lent_table ws) where
+    pub plan_long : room < length (listing ds) → listing_plan ws room ≡ refused 2 0
     unfolding listing_plan
-    list_fault {pair} q = let e = lent_fault ws pair long p q in record { answer = rw e; bytes = rw e }
+    plan_long h = rw (← q, lt-ltb room (length (listing ds)) h)
 
-    module _ {n : ℕ} (q : r ≡ Sound n) where
-      -- there are no more definitions than a table may have
-      pub sound_limit : n ≤ definition_limit
-      sound_limit = (lent ws n long (told p q)).limit
+    pub plan_written : length (listing ds) ≤ room → listing_plan ws room ≡ answered (listing ds)
+    unfolding listing_plan
+    plan_written h = rw (← q, le-ltb room (length (listing ds)) h)
 
-      module _ {k : ℕ} (size : k ≡ length (listing (definitions n ws))) where
-        pub list_long : length old < k → Lists ws old (Refused ShortSlice 0) old
-        unfolding listing_plan
-        list_long h =
-            let e = lent_sound ws n long p q in
-            let l = lt-ltb (length old) (length (listing (definitions n ws))) (rw size at h) in
-            record { answer = rw (e, l); bytes = rw (e, l) }
+-- there are no more definitions than a table may have
+pub lent_limit : (ws vs : List ℕ) (n : ℕ) → 2 * n ≤ length vs → answered (definitions n vs) ≡ lent_table ws → n ≤ definition_limit
+lent_limit ws vs n h q = omega (arith, definitions_length n vs h, admits_limit (definitions n vs) (lent_admits ws (definitions n vs) (sym q)))
 
-        pub list_fits : k ≤ length old → length (listing (definitions n ws)) ≤ length old
-        list_fits h = rw size at h
-
-        pub list_written : {new : List ℕ} → k ≤ length old → new ≡ over (listing (definitions n ws)) old → Lists ws old (Length k) new
-        unfolding listing_plan
-        list_written h w =
-            let e = lent_sound ws n long p q in
-            let l = le-ltb (length old) (length (listing (definitions n ws))) (rw size at h) in
-            record { answer = rw (e, l, size); bytes = rw (e, l) w }
+pub ruleset planned = (plan_refused, plan_long, plan_written, lent_limit)

@@ -1,7 +1,7 @@
 // A table listed back as text: a line a definition, in order.
 #![tactic(auto)]
 
-ghost use Rattle.std.specs.Prelude.{◌≡◌, ◌∷◌, ◌+◌, ◌*◌, ◌≤◌, length};
+ghost use Rattle.std.specs.Prelude.{◌≡◌, ◌∷◌, ◌+◌, ◌≤◌, length};
 ghost use Rattle.basics.specs.Buffers.{over};
 ghost use Rattle.definitions.specs.Effects.{definition_limit};
 ghost use Rattle.pairs.specs.Words.{definitions};
@@ -9,33 +9,26 @@ ghost use Rattle.writing.specs.Writing.{dots_text, Put};
 ghost use Rattle.listing.specs.Listing.{escaped, directive_word, operand_text, listing, Lists};
 ghost use Rattle.listing.specs.Internal.{whole_line, line_length};
 
-use basics::Refusal;
-use definitions::Meaning;
-use table::{Checked, TABLE_WORDS};
+use basics::{Refusal, Refused};
+use definitions::{Definition, Meaning};
+use pairs::Pairs;
 
 // The most bytes that a listing has: 1,024 lines of 28.
 pub const LISTING_LIMIT: usize = 28672;
 
-// What the listing call answers; a refusal with its place.
-#[derive(Clone, Copy)]
-pub enum Listed {
-    Length(usize),
-    Refused(Refusal, usize),
-}
-
-// Puts a directive word.
-fn put_word(buffer: &mut [u8], at: usize, m: Meaning) -> usize
-    requires { at + length (directive_word m) ≤ length buffer.old }
-    ensures { Put buffer.old at (directive_word m) result buffer.new }
+// The directive word of a definition.
+fn directive_word(m: Meaning) -> &'static [u8]
+    ensures { result.now ≡ directive_word m }
 {
     match m {
-        Meaning::Typed(_) => writing::put_bytes(buffer, at, b"char"),
-        Meaning::Shown(_) => writing::put_bytes(buffer, at, b"glyph"),
-        Meaning::Alias(_) => writing::put_bytes(buffer, at, b"alias"),
+        Meaning::Typed(_) => b"char",
+        Meaning::Shown(_) => b"glyph",
+        Meaning::Alias(_) => b"alias",
     }
 }
 
-// Puts a blank and a character.
+// Puts a blank and a character. The buffer and the place are passed on by themselves: a struct that holds a lent buffer
+// has to promise in each contract that it still holds the same one.
 fn put_character(buffer: &mut [u8], at: usize, c: u32) -> usize
     requires { at + length (32 ∷ escaped c) ≤ length buffer.old }
     ensures { Put buffer.old at (32 ∷ escaped c) result buffer.new }
@@ -51,10 +44,8 @@ fn put_dots(buffer: &mut [u8], at: usize, cell: u8) -> usize
     ensures { Put buffer.old at (32 ∷ dots_text cell) result buffer.new }
 {
     let digits = writing::dots_digits(cell);
-    let bytes = digits.bytes;
-    let count = digits.count;
     let blank = writing::put_byte(buffer, at, b' ');
-    writing::put_bytes(buffer, blank, &bytes[..count])
+    writing::put_bytes(buffer, blank, digits.as_slice())
 }
 
 // Puts a blank and what follows the character.
@@ -63,20 +54,19 @@ fn put_operand(buffer: &mut [u8], at: usize, m: Meaning) -> usize
     ensures { Put buffer.old at (32 ∷ operand_text m) result buffer.new }
 {
     match m {
-        Meaning::Typed(dots) => put_dots(buffer, at, dots),
-        Meaning::Shown(dots) => put_dots(buffer, at, dots),
+        Meaning::Typed(dots) | Meaning::Shown(dots) => put_dots(buffer, at, dots),
         Meaning::Alias(target) => put_character(buffer, at, target),
     }
 }
 
 // Puts a line with its LF.
-fn put_line(buffer: &mut [u8], at: usize, c: u32, m: Meaning) -> usize
-    requires { at + length (whole_line c m) ≤ length buffer.old }
-    ensures { Put buffer.old at (whole_line c m) result buffer.new }
+fn put_line(buffer: &mut [u8], at: usize, d: Definition) -> usize
+    requires { at + length (whole_line d) ≤ length buffer.old }
+    ensures { Put buffer.old at (whole_line d) result buffer.new }
 {
-    let word = put_word(buffer, at, m);
-    let character = put_character(buffer, word, c);
-    let operand = put_operand(buffer, character, m);
+    let word = writing::put_bytes(buffer, at, directive_word(d.meaning));
+    let character = put_character(buffer, word, d.character);
+    let operand = put_operand(buffer, character, d.meaning);
     writing::put_byte(buffer, operand, b'\n')
 }
 
@@ -91,55 +81,41 @@ fn line_length(m: Meaning) -> usize
     }
 }
 
-// How long the listing of the first pairs is.
-fn listing_length(words: &[u32], count: usize) -> usize
-    requires { (2 * count ≤ length words.now) × (count ≤ definition_limit) }
-    ensures { result ≡ length (listing (definitions count words.now)) }
+// How long the listing of the definitions is.
+fn listing_length(pairs: Pairs<'_>) -> usize
+    requires { pairs.count ≤ definition_limit }
+    ensures { result ≡ length (listing (definitions pairs.entry.count pairs.entry.words.now)) }
 {
     let mut sum = 0;
-    let mut i = 0;
-    while i < count {
-        sum += line_length(pairs::meaning_of(words[2 * i + 1]));
-        i += 1;
+    for i in 0..pairs.count {
+        sum += line_length(pairs::meaning_of(pairs.words[2 * i + 1]));
     }
     sum
 }
 
-// Writes the listing of the first pairs.
-fn put_listing(words: &[u32], count: usize, buffer: &mut [u8])
-    requires count_in_bounds { 2 * count ≤ length words.now }
-    requires words_in_bounds { length (listing (definitions count words.now)) ≤ length buffer.old }
-    ensures { buffer.new ≡ over (listing (definitions count words.now)) buffer.old }
+// Writes the listing of the definitions.
+fn put_listing(pairs: Pairs<'_>, buffer: &mut [u8])
+    requires { length (listing (definitions pairs.count pairs.words.now)) ≤ length buffer.old }
+    ensures { buffer.new ≡ over (listing (definitions pairs.entry.count pairs.entry.words.now)) buffer.old }
 {
     let mut at = 0;
-    let mut i = 0;
-    while i < count {
-        at = put_line(
-            buffer,
-            at,
-            words[2 * i],
-            pairs::meaning_of(words[2 * i + 1]),
-        );
-        i += 1;
+    for i in 0..pairs.count {
+        let character = pairs.words[2 * i];
+        let meaning = pairs::meaning_of(pairs.words[2 * i + 1]);
+        at = put_line(buffer, at, Definition { character, meaning });
     }
 }
 
 // The listing call: any slices.
-pub fn list_table(words: &[u32], buffer: &mut [u8]) -> Listed
+#[tactic(auto, using(crate::proofs::Calls::planned))]
+pub fn list_table(words: &[u32], buffer: &mut [u8]) -> Result<usize, Refused>
     ensures { Lists words.now buffer.old result buffer.new }
 {
-    if words.len() < TABLE_WORDS {
-        return Listed::Refused(Refusal::ShortSlice, 0);
+    let pairs = table::lent_table(words)?;
+    let length = listing_length(pairs);
+    if buffer.len() < length {
+        return Err(Refusal::ShortSlice.into());
     }
-    match table::check_table(words) {
-        Checked::FaultAt(pair) => Listed::Refused(Refusal::NotTable, pair),
-        Checked::Sound(count) => {
-            let length = listing_length(words, count);
-            if buffer.len() < length {
-                return Listed::Refused(Refusal::ShortSlice, 0);
-            }
-            put_listing(words, count, buffer);
-            Listed::Length(length)
-        }
-    }
+    put_listing(pairs, buffer);
+    Ok(length)
 }

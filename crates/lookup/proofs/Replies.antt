@@ -1,27 +1,27 @@
 -- What the lookup call and the page call answer and write, as their tests and calls decide it.
 use Prim.Native.Nat.{ℕ, ◌+◌, ◌≤◌, ◌<◌}
-use mathlib.Core.Path.{◌≡◌, refl, sym, ap, ◌∙◌}
-use mathlib.Core.Bool.{Bool, true, false, not}
-use mathlib.Core.List.{List, map}
-use native.Mathlib.Numerals.{add-one}
-use lib.ListN.{length, get_or, drop, drop_of_length-le}
-use lib.Seq.{drop-cons}
-use borrow.Author.Tests.{le-ltb, not-true, not-false}
-use Rattle.basics.specs.Choice.{pick}
+use mathlib.Core.Path.{◌≡◌, refl, ap, ◌∙◌}
+use mathlib.Core.Bool.{true, false, not}
+use mathlib.Core.List.{List, [], ◌∷◌, map}
+use Rattle.std.specs.Prelude.{◌⊎◌}
+use Rattle.std.proofs.Common.{inl, inr}
+use Rattle.std.specs.List.{position_from}
+use Rattle.basics.proofs.Tests.{by_cases}
+use lib.ListN.{length}
+use borrow.Author.Tests.{lt-ltb, le-ltb}
 use Rattle.basics.specs.Refusals.{Reply, answered, refused, and_then}
 use Rattle.basics.specs.Buffers.{over}
 use Rattle.scalars.specs.Characters.{is_scalar}
+use Rattle.definitions.specs.declared.Definition.{Definition}
 use Rattle.definitions.specs.Definitions.{table}
-use Rattle.std.specs.Prelude.{Result, Ok, Err}
-use Rattle.pairs.specs.Words.{table_words, charset_of, definitions, table_of}
-use Rattle.table.specs.Check.{check_of, lent_table}
-use Rattle.table.proofs.Lent.{lent_fault, lent_sound}
+use Rattle.pairs.specs.Words.{charset_of}
+use Rattle.table.specs.Check.{lent_table}
 use Rattle.rules.specs.declared.Answer.{Answer}
-use Rattle.rules.specs.declared.LastCells.{LastCells}
 use Rattle.std.specs.Prelude.{Option, None, Some}
 use Rattle.rules.specs.Rules.{candidates, rules_from3, lookup}
 use Rattle.lookup.specs.Calls.{lookup_reply, first_no_scalar, unless_at, page_plan, Pages}
 use Rattle.rules.specs.Internal.{last_cells, lookup_by}
+use Rattle.rules.proofs.Choices.{by_last}
 
 -- ---- the lookup call
 
@@ -30,27 +30,22 @@ module _ (ws : List ℕ) (c : ℕ) where
   unfolding lookup_reply
   look_refused e = rw e
 
-  pub look_sound : (n : ℕ) {r : Result ℕ ℕ} {v : Reply Answer} → table_words ≤ length ws → r ≡ check_of ws → r ≡ Ok n
-      → v ≡ pick (is_scalar c) (answered (lookup (charset_of ws) (table (definitions n ws)) c)) (refused 14 0) → v ≡ lookup_reply ws c
-  unfolding lookup_reply
-  look_sound n h p q e = rw (lent_sound ws n h p q) e
+  module _ (ds : List Definition) (lent : answered ds ≡ lent_table ws) where
+    pub look_no_scalar : false ≡ is_scalar c → refused 14 0 ≡ lookup_reply ws c
+    unfolding lookup_reply
+    look_no_scalar other = rw (← lent, ← other)
 
--- ---- the first character that is no scalar value
+    pub look_answered : {set : ℕ} {a : Answer} → true ≡ is_scalar c → set ≡ charset_of ws → a ≡ lookup_by set (table ds) (last_cells (table ds)) c
+        → answered a ≡ lookup_reply ws c
+    unfolding lookup_reply
+    look_answered scalar own e = rw (← lent, ← scalar, ← own) (ap answered (by_last _ _ _ refl e))
 
--- x is what the loop is to answer
-module _ (x : Option ℕ) (cs : List ℕ) (i : ℕ) (inv : x ≡ first_no_scalar (drop i cs) i) where
-  module _ (s : Bool) (h : i < length cs) (e : s ≡ is_scalar (get_or cs i 0)) where
-    pub first_here : not s ≡ true → Some i ≡ x
-    unfolding first_no_scalar
-    first_here q = sym (inv ∙ rw (drop-cons cs i 0, ← e, not-true s q))
+-- ---- the first character that is no scalar value, as std has it
 
-    pub first_later : not s ≡ false → x ≡ first_no_scalar (drop (i + 1) cs) (i + 1)
-    unfolding first_no_scalar
-    first_later q = inv ∙ rw (drop-cons cs i 0, ← e, not-false s q, add-one i)
-
-  pub first_none : length cs ≤ i → None ≡ x
-  unfolding first_no_scalar
-  first_none h = sym (inv ∙ rw (drop_of_length-le cs h))
+pub first_place : (cs : List ℕ) (i : ℕ) → position_from (λ c. not (is_scalar c)) i cs ≡ first_no_scalar cs i
+unfolding first_no_scalar
+first_place [] i = refl
+first_place (c ∷ cs) i = by_cases (is_scalar c) (λ q. rw q (first_place cs (i + 1))) (λ q. rw q)
 
 -- ---- what a page writes for a character
 
@@ -75,28 +70,31 @@ module _ (ws cs cells rules : List ℕ) where
   abbrev Settles : Reply (Unit {0}) → List ℕ → List ℕ → Type 0
   Settles = Pages (λ reply. reply) plan cs cells rules
 
-  pub page_refused : {number place : ℕ} → plan ≡ refused number place → Settles (refused number place) cells rules
-  page_refused e = pages_refused e
+  pub page_short : (length cells < length cs) ⊎ ((length cs ≤ length cells) × (length rules < length cs)) → Settles (refused 2 0) cells rules
+  unfolding page_plan
+  page_short (inl h) = pages_refused (rw (lt-ltb (length cells) (length cs) h))
+  page_short (inr h) = pages_refused (rw (le-ltb (length cells) (length cs) h.0, lt-ltb (length rules) (length cs) h.1))
 
-  module _ {r : Result ℕ ℕ} (long : table_words ≤ length ws) (wide : length cs ≤ length cells) (deep : length cs ≤ length rules) (p : r ≡ check_of ws) where
+  module _ (wide : length cs ≤ length cells) (deep : length cs ≤ length rules) where
     planned : plan ≡ and_then (lent_table ws) (λ ds. unless_at (first_no_scalar cs 0) (lookup (charset_of ws) (table ds)))
     unfolding page_plan
     planned = rw (le-ltb (length cells) (length cs) wide, le-ltb (length rules) (length cs) deep)
 
-    pub page_fault : {pair : ℕ} → r ≡ Err pair → Settles (refused 15 pair) cells rules
-    page_fault {pair} q = pages_refused (planned ∙ rw (lent_fault ws pair long p q))
+    pub page_refused : {number place : ℕ} → refused number place ≡ lent_table ws → Settles (refused number place) cells rules
+    page_refused e = pages_refused (planned ∙ rw (← e))
 
-    module _ {n : ℕ} {s : Option ℕ} (q : r ≡ Ok n) (from : s ≡ first_no_scalar cs 0) where
+    -- s is what a call answered of the characters
+    module _ (ds : List Definition) {s : Option ℕ} (lent : answered ds ≡ lent_table ws) (from : s ≡ first_no_scalar cs 0) where
       pub page_no_scalar : {i : ℕ} → s ≡ Some i → Settles (refused 14 i) cells rules
-      page_no_scalar e = pages_refused (planned ∙ rw (lent_sound ws n long p q, ← from, e))
+      page_no_scalar e = pages_refused (planned ∙ rw (← lent, ← from, e))
 
-      pub page_filled : {last : LastCells} {new-cells new-rules : List ℕ} → s ≡ None → last ≡ last_cells (table_of n ws)
-          → new-cells ≡ over (map (λ (c : ℕ). (lookup_by (charset_of ws) (table_of n ws) last c).cell) cs) cells
-          → new-rules ≡ over (map (λ (c : ℕ). (lookup_by (charset_of ws) (table_of n ws) last c).rule) cs) rules
+      pub page_filled : {set : ℕ} {new-cells new-rules : List ℕ} → s ≡ None → set ≡ charset_of ws
+          → new-cells ≡ over (map (λ (c : ℕ). (lookup_by set (table ds) (last_cells (table ds)) c).cell) cs) cells
+          → new-rules ≡ over (map (λ (c : ℕ). (lookup_by set (table ds) (last_cells (table ds)) c).rule) cs) rules
           → Settles (answered tt) new-cells new-rules
       unfolding lookup rules_from3 candidates
       page_filled e own to-cells to-rules =
-          let all : plan ≡ answered (lookup (charset_of ws) (table_of n ws)) = planned ∙ rw (lent_sound ws n long p q, ← from, e) in
+          let all : plan ≡ answered (lookup (charset_of ws) (table ds)) = planned ∙ rw (← lent, ← from, e) in
           rw (to-cells, to-rules, all, own) (record { answer = refl; cells = refl; rules = refl })
 
 -- its answer given otherwise: told is what the call answers, and v is how it is given

@@ -4,8 +4,10 @@ use mathlib.Core.Path.{◌≡◌, refl, sym}
 use mathlib.Core.Bool.{Bool, true, false}
 use mathlib.Core.List.{List, []}
 use native.Mathlib.Omega.{arith}
+use Rattle.std.specs.Prelude.{Result, Ok}
 use Rattle.basics.specs.Choice.{pick}
-use Rattle.basics.specs.Refusals.{Reply, answered, refused, and_then}
+use Rattle.basics.specs.declared.Refused.{Refused}
+use Rattle.basics.specs.Refusals.{Reply, answered, refused, and_then, reply_of}
 use Rattle.basics.proofs.Tests.{by_cases}
 use Rattle.scalars.specs.Characters.{is_scalar, is_braille, local_of}
 use Rattle.definitions.specs.declared.Definition.{Definition}
@@ -17,7 +19,7 @@ use Rattle.table.specs.Check.{lent_table}
 use Rattle.table.proofs.Readback.{lent_admits}
 use Rattle.rules.specs.declared.Answer.{Answer}
 use Rattle.rules.specs.Rules.{lookup}
-use Rattle.lookup.specs.Calls.{lookup_reply, reply_of, Followed, LentLinks}
+use Rattle.lookup.specs.Calls.{lookup_reply, Followed, LentLinks}
 use Rattle.rules.proofs.Choices.{rules_chosen}
 
 lookup_followed : (charset : ℕ) (ds : List Definition) → Admits [] ds → (c : ℕ) → Followed charset ds c (lookup charset (table ds) c).links
@@ -44,7 +46,7 @@ lent_links ws c {r} e = go (lent_table ws) r refl e
     go (refused number place) r p e = tt
 
 -- such links are as few as the definitions of a table
-pub shown_small : (ws : List ℕ) (c : ℕ) {r : Looked} {a : Answer} → reply_of r ≡ lookup_reply ws c → r ≡ Answered a → a.links ≤ definition_limit
+pub shown_small : (ws : List ℕ) (c : ℕ) {r : Result Answer Refused} {a : Answer} → reply_of r ≡ lookup_reply ws c → r ≡ Ok a → a.links ≤ definition_limit
 unfolding lookup_reply
 shown_small ws c {r} {a} p q = go (lent_table ws) refl (rw (← p, q)) (rw q at (lent_links ws c p))
   where

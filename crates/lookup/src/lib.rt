@@ -48,7 +48,12 @@ pub fn fill<T: Finder>(by: &Rules<T>, characters: &[u32], cells: &mut [u8], rule
 }
 
 // The page call: any slices. A buffer that is too short is told before what the table is.
-pub fn page(words: &[u32], characters: &[u32], cells: &mut [u8], rules: &mut [u8]) -> Result<(), Refused>
+pub fn page(
+    words: &[u32],
+    characters: &[u32],
+    cells: &mut [u8],
+    rules: &mut [u8],
+) -> Result<(), Refused>
     ensures { Pages (λ reply. reply) (page_plan words.now characters.now (length cells.old) (length rules.old)) characters.now cells.old rules.old (reply_of result) cells.new rules.new }
 {
     if cells.len() < characters.len() || rules.len() < characters.len() {

@@ -1,7 +1,6 @@
 -- The search by halving: how many comparisons, what it finds where characters rise, and each way through a turn of the loop.
 use Prim.Native.Nat.{ℕ, zero, suc, ◌+◌, ◌-◌, ◌*◌, ◌/◌, ◌<◌, ◌≤◌}
 use mathlib.Core.Path.{◌≡◌, refl, sym, ap, ◌∙◌}
-use mathlib.Core.Bool.{Bool, true, false}
 use mathlib.Core.List.{List}
 use native.Mathlib.Nat.{add-zero}
 use native.Mathlib.Omega.{arith}
@@ -9,9 +8,12 @@ use lib.Dec.{eqb, ltb}
 use lib.ListN.{length, get_or, take}
 use lib.Seq.{get_or-take, length-take-le}
 use borrow.Author.Tests.{eqb-true, eqb-false, ltb-true, ltb-false, eq-eqb, ne_eqb, lt-ltb, le-ltb}
+use Rattle.std.specs.Prelude.{Result, Ok, Err}
+use Rattle.std.proofs.Common.{Ordering, Less, Equal, Greater, nat_cmp}
+use Rattle.std.proofs.lemmas.Cmp.{ranked}
 use Rattle.basics.proofs.Tests.{by_cases, by_test, either}
 use Rattle.order.specs.declared.Halved.{Halved}
-use Rattle.order.specs.Order.{character, at_place, found_at, none_at, after, halved, searched}
+use Rattle.order.specs.Order.{character, at_place, none_at, after, halved, searched}
 use Rattle.order.specs.Internal.{Ordered, Distinct}
 use Rattle.order.proofs.Rising.{each_at, at_each, rising_at, rises_rising, rises_below, first_words, order_each}
 
@@ -41,58 +43,44 @@ eleven at c n h = halved_within 11 at c n 0 n (omega arith)
 
 -- ---- what it finds
 
+-- at the places before one all are smaller, from it on all are larger
+pub record Between (at : ℕ → ℕ) (c n place : ℕ) : Type 0 where
+  pub within : place ≤ n
+  pub before : (i : ℕ) → i < place → at i < c
+  pub behind : (i : ℕ) → place ≤ i → i < n → c < at i
+
 -- what an answer tells of n places
-pub record Tells (at : ℕ → ℕ) (c n : ℕ) (h : Halved) : Type 0 where
-  pub within : h.place ≤ n
-  pub hit : h.found ≡ true → (h.place < n) × (at h.place ≡ c)
-  pub before : h.found ≡ false → (i : ℕ) → i < h.place → at i < c
-  pub behind : h.found ≡ false → (i : ℕ) → h.place ≤ i → i < n → c < at i
+abbrev pub Tells : (ℕ → ℕ) → ℕ → ℕ → Result ℕ ℕ → Type 0
+Tells at c n (Ok place) = (place < n) × (at place ≡ c)
+Tells at c n (Err place) = Between at c n place
 
 module _ (at : ℕ → ℕ) (c n : ℕ) (up : (i j : ℕ) → i ≤ j → j < n → at i ≤ at j) where
-  counted_on : (h : Halved) → Tells at c n h → Tells at c n (after 1 h)
-  counted_on h t = record { within = t.within; hit = t.hit; before = t.before; behind = t.behind }
-
-  none_left : (low left : ℕ) → left ≡ 0 → low ≤ n → ((i : ℕ) → i < low → at i < c) → ((i : ℕ) → low + left ≤ i → i < n → c < at i) → Tells at c n (none_at low)
-  none_left low left e l before behind = record {
-    within = l;
-    hit = λ q. absurd (let z : ◌≡◌ {A = ℕ} 0 1 = cc in omega arith);
-    before = λ q. before;
-    behind = λ q i p. behind i (omega arith);
-  }
-
-  found_mid : (mid : ℕ) → mid < n → at mid ≡ c → Tells at c n (found_at mid)
-  found_mid mid h e = record {
-    within = omega arith;
-    hit = λ q. (h, e);
-    before = λ q. absurd (let z : ◌≡◌ {A = ℕ} 0 1 = cc in omega arith);
-    behind = λ q. absurd (let z : ◌≡◌ {A = ℕ} 0 1 = cc in omega arith);
-  }
-
   -- all before `low` are smaller, all behind what is left are larger
   halved_tells : (budget low left : ℕ) → left ≤ budget → low + left ≤ n → ((i : ℕ) → i < low → at i < c) → ((i : ℕ) → low + left ≤ i → i < n → c < at i)
-      → Tells at c n (halved at c budget low left)
+      → Tells at c n (halved at c budget low left).place
   unfolding halved
-  halved_tells zero low left h room before behind = none_left low left (omega arith) (omega arith) before behind
+  halved_tells zero low left h room before behind =
+      record { within = omega arith; before = before; behind = λ i p. behind i (omega arith) }
   halved_tells (suc budget) low left h room before behind =
       let half = (left - 1) / 2 in
       let mid = low + half in
-      by_test (Tells at c n) (eqb left 0)
-      (λ t. none_left low left (eqb-true left 0 t) (omega arith) before behind)
+      by_test (λ (h : Halved). Tells at c n h.place) (eqb left 0)
+      (λ t.
+      let none = eqb-true left 0 t in
+      record { within = omega arith; before = before; behind = λ i p. behind i (omega arith) })
       (λ t.
       let some = eqb-false left 0 t in
-      by_test (Tells at c n) (eqb (at mid) c)
-      (λ e. found_mid mid (omega arith) (eqb-true (at mid) c e))
+      by_test (λ (h : Halved). Tells at c n h.place) (eqb (at mid) c)
+      (λ e. (omega arith, eqb-true (at mid) c e))
       (λ e.
       let away = eqb-false (at mid) c e in
-      by_test (λ h. Tells at c n (after 1 h)) (ltb (at mid) c)
+      by_test (λ (h : Halved). Tells at c n h.place) (ltb (at mid) c)
       (λ l.
       let less = ltb-true (at mid) c l in
-      counted_on _
-      (halved_tells budget (mid + 1) (left - (half + 1)) (omega arith) (omega arith) (λ i p. omega (arith, up i mid (omega arith) (omega arith))) (λ i p. behind i (omega arith))))
+      halved_tells budget (mid + 1) (left - (half + 1)) (omega arith) (omega arith) (λ i p. omega (arith, up i mid (omega arith) (omega arith))) (λ i p. behind i (omega arith)))
       (λ l.
       let more = ltb-false (at mid) c l in
-      counted_on _
-      (halved_tells budget low half (omega arith) (omega arith) before (λ i p q. omega (arith, up mid i (omega arith) q))))))
+      halved_tells budget low half (omega arith) (omega arith) before (λ i p q. omega (arith, up mid i (omega arith) q)))))
 
 -- ---- in the order of n pairs
 
@@ -106,8 +94,8 @@ module _ (ws : List ℕ) (n : ℕ) (os : List ℕ) (o : Ordered ws n os) where
       rw (get_or-take n os place 0 h) at (each_at (λ k. k < n) (take n os) (rises_below ws n (take n os) o.rising) place (omega (arith, size)))
 
   -- and its pair in the words
-  pub pair_read : {place k : ℕ} → k ≡ get_or os place 0 → place < n → 2 * k + 1 < length ws
-  pair_read {place} e h = omega (arith, place_below place h, o.fits)
+  pub pair_read : (place : ℕ) → place < n → 2 * get_or os place 0 + 1 < length ws
+  pair_read place h = omega (arith, place_below place h, o.fits)
 
   places_rise : (i j : ℕ) → i < j → j < n → at_place ws os i < at_place ws os j
   places_rise i j l h =
@@ -138,7 +126,7 @@ module _ (ws : List ℕ) (n : ℕ) (os : List ℕ) (o : Ordered ws n os) where
   ordered_distinct = record { differ = λ i j l h. pairs_differ i j (omega arith) h (λ e. omega arith) }
 
   module _ (c : ℕ) where
-    pub tells : Tells (at_place ws os) c n (searched ws os n c)
+    pub tells : Tells (at_place ws os) c n (searched ws os n c).place
     tells =
         halved_tells (at_place ws os) c n
         (λ i j l h. by_cases (eqb i j) (λ t. rw (eqb-true i j t) (omega arith)) (λ t. omega (arith, places_rise i j (omega (arith, eqb-false i j t)) h)))
@@ -146,35 +134,39 @@ module _ (ws : List ℕ) (n : ℕ) (os : List ℕ) (o : Ordered ws n os) where
 
     -- h is what the search answered
     module _ (h : Halved) (is : h ≡ searched ws os n c) where
-      told_so : Tells (at_place ws os) c n h
-      told_so = rw is tells
+      told_so : {r : Result ℕ ℕ} → h.place ≡ r → Tells (at_place ws os) c n r
+      told_so e = rw (← e, is) tells
 
-      module _ (found : h.found ≡ true) where
-        pub place_hit : h.place < n
-        place_hit = (told_so.hit found).0
+      module _ (place : ℕ) (found : h.place ≡ Ok place) where
+        pub place_hit : place < n
+        place_hit = (told_so found).0
 
         -- its pair has the character, and no other has it
-        pub pair_hit : (get_or os h.place 0 < n) × (character ws (get_or os h.place 0) ≡ c)
-        pair_hit = (place_below h.place place_hit, (told_so.hit found).1)
+        pub pair_hit : (get_or os place 0 < n) × (character ws (get_or os place 0) ≡ c)
+        pair_hit = (place_below place place_hit, (told_so found).1)
 
-        pub pair_alone : (k : ℕ) → k < n → (k ≡ get_or os h.place 0 → ⊥) → character ws k ≡ c → ⊥
-        pair_alone k l away e = pairs_differ k (get_or os h.place 0) l pair_hit.0 away (e ∙ sym pair_hit.1)
+        pub pair_alone : (k : ℕ) → k < n → (k ≡ get_or os place 0 → ⊥) → character ws k ≡ c → ⊥
+        pair_alone k l away e = pairs_differ k (get_or os place 0) l pair_hit.0 away (e ∙ sym pair_hit.1)
 
-      pub no_pair : h.found ≡ false → (k : ℕ) → k < n → character ws k ≡ c → ⊥
-      no_pair none =
-          each_pair (λ k. character ws k ≡ c → ⊥)
-          (λ i l e.
-          by_cases (ltb i h.place)
-          (λ t. omega (arith, told_so.before none i (ltb-true i h.place t)))
-          (λ t. omega (arith, told_so.behind none i (ltb-false i h.place t) l)))
+      module _ (place : ℕ) (missing : h.place ≡ Err place) where
+        pub between : Between (at_place ws os) c n place
+        between = told_so missing
+
+        pub no_pair : (k : ℕ) → k < n → character ws k ≡ c → ⊥
+        no_pair =
+            each_pair (λ k. character ws k ≡ c → ⊥)
+            (λ i l e.
+            by_cases (ltb i place)
+            (λ t. omega (arith, between.before i (ltb-true i place t)))
+            (λ t. omega (arith, between.behind i (ltb-false i place t) l)))
 
 -- ---- a turn of the search; x is what it is to answer
 
-counted : (found : Bool) (place : ℕ) {m n : ℕ} → m ≡ n → ◌≡◌ {A = Halved} (record { found = found; place = place; comparisons = m }) (record { found = found; place = place; comparisons = n })
-counted found place e = rw e
+counted : (place : Result ℕ ℕ) {m n : ℕ} → m ≡ n → ◌≡◌ {A = Halved} (record { place = place; comparisons = m }) (record { place = place; comparisons = n })
+counted place e = rw e
 
 pub search_first : (at : ℕ → ℕ) (c n : ℕ) → halved at c n 0 n ≡ after 0 (halved at c (n - 0) 0 n)
-search_first at c n = let e : n - 0 ≡ n = omega arith in rw e (counted _ _ (omega arith))
+search_first at c n = let e : n - 0 ≡ n = omega arith in rw e (counted _ (omega arith))
 
 none_found : (at : ℕ → ℕ) (c budget low : ℕ) → halved at c budget low 0 ≡ none_at low
 unfolding halved
@@ -182,28 +174,32 @@ none_found at c zero low = refl
 none_found at c (suc budget) low = refl
 
 module _ (ws os : List ℕ) (c n low left k : ℕ) (x : Halved) (inv : x ≡ after k (halved (at_place ws os) c (n - k) low left)) (room : k + left ≤ n) where
-  pub search_over : left ≤ 0 → record { found = false; place = low; comparisons = k } ≡ x
+  pub search_over : left ≤ 0 → record { place = Err low; comparisons = k } ≡ x
   search_over h = let none : left ≡ 0 = omega arith in sym (inv ∙ rw (none, none_found (at_place ws os) c (n - k) low, add-zero k))
 
-  module _ (some : 0 < left) (r : ℕ) (read : r ≡ get_or os (low + (left - 1) / 2) 0) where
+  module _ (some : 0 < left) (r : Ordering) (compared : r ≡ nat_cmp (at_place ws os (low + (left - 1) / 2)) c) where
+    abbrev mid : ℕ
+    mid = at_place ws os (low + (left - 1) / 2)
+
     budget_left : n - k ≡ suc (n - (k + 1))
     budget_left = omega arith
 
-    pub search_hit : get_or ws (2 * r) 0 ≡ c → record { found = true; place = low + (left - 1) / 2; comparisons = k + 1 } ≡ x
+    pub search_hit : r ≡ Equal → record { place = Ok (low + (left - 1) / 2); comparisons = k + 1 } ≡ x
     unfolding halved
-    search_hit e = let here = rw read at e in sym (inv ∙ rw (budget_left, ne_eqb left 0 (λ q. omega arith), eq-eqb _ c here))
+    search_hit e =
+        let same = rw e at (ranked mid c r compared) in
+        sym (inv ∙ rw (budget_left, ne_eqb left 0 (λ q. omega arith), eq-eqb mid c same))
 
-    module _ (miss : get_or ws (2 * r) 0 ≡ c → ⊥) where
-      pub search_above : get_or ws (2 * r) 0 < c → x ≡ after (k + 1) (halved (at_place ws os) c (n - (k + 1)) (low + (left - 1) / 2 + 1) (left - ((left - 1) / 2 + 1)))
-      unfolding halved
-      search_above l =
-          let away = rw read at miss in
-          let less = rw read at l in
-          inv ∙ rw (budget_left, ne_eqb left 0 (λ q. omega arith), ne_eqb _ c away, lt-ltb _ c less) (counted _ _ (omega arith))
+    pub search_above : r ≡ Less → x ≡ after (k + 1) (halved (at_place ws os) c (n - (k + 1)) (low + (left - 1) / 2 + 1) (left - ((left - 1) / 2 + 1)))
+    unfolding halved
+    search_above e =
+        let less = rw e at (ranked mid c r compared) in
+        inv ∙ rw (budget_left, ne_eqb left 0 (λ q. omega arith), ne_eqb mid c (λ q. omega arith), lt-ltb mid c less) (counted _ (omega arith))
 
-      pub search_below : c ≤ get_or ws (2 * r) 0 → x ≡ after (k + 1) (halved (at_place ws os) c (n - (k + 1)) low ((left - 1) / 2))
-      unfolding halved
-      search_below l =
-          let away = rw read at miss in
-          let more = rw read at l in
-          inv ∙ rw (budget_left, ne_eqb left 0 (λ q. omega arith), ne_eqb _ c away, le-ltb _ c more) (counted _ _ (omega arith))
+    pub search_below : r ≡ Greater → x ≡ after (k + 1) (halved (at_place ws os) c (n - (k + 1)) low ((left - 1) / 2))
+    unfolding halved
+    search_below e =
+        let more = rw e at (ranked mid c r compared) in
+        inv ∙ rw (budget_left, ne_eqb left 0 (λ q. omega arith), ne_eqb mid c (λ q. omega arith), le-ltb mid c (omega arith)) (counted _ (omega arith))
+
+pub ruleset turns = (search_over, search_hit, search_above, search_below)

@@ -7,20 +7,19 @@ use native.Mathlib.Omega.{arith}
 use lib.ListN.{length, get_or}
 use lib.Dec.{eqb}
 use borrow.Author.Tests.{ne_eqb}
-use Rattle.basics.specs.Choice.{pick, is_character}
+use Rattle.basics.specs.Choice.{pick}
+use Rattle.std.specs.Prelude.{Option, None, Some, is_some}
 use Rattle.basics.proofs.Tests.{by_test}
 use Rattle.scalars.specs.Characters.{is_braille, is_private, local_of}
 use Rattle.definitions.specs.declared.Meaning.{Meaning}
 use Rattle.definitions.specs.declared.Definition.{Definition}
-use Rattle.definitions.specs.declared.Cell.{Cell}
-use Rattle.definitions.specs.declared.Cell.TheVariants.{Absent, Dots}
 use Rattle.definitions.specs.Definitions.{table, types, typed_in}
 use Rattle.pairs.specs.declared.Walked.{Walked}
 use Rattle.pairs.specs.Words.{meaning_of}
 use Rattle.pairs.specs.Internal.{walk_with_cell}
-use Rattle.pairs.proofs.Pairs.{rest, rest_none, rest_more}
+use Rattle.pairs.proofs.Scan.{rest, rest_none, rest_more}
 use Rattle.rules.specs.declared.Answer.{Answer}
-use Rattle.rules.specs.Rules.{if_dots, choose, lookup}
+use Rattle.rules.specs.Rules.{choose, lookup}
 use Rattle.rules.proofs.Choices.{Chosen, choose_chosen, by_walk}
 use Rattle.reader.specs.Conditions.{has_glyph}
 
@@ -34,14 +33,14 @@ later_rule two a h =
     rw (p, ne_eqb a.rule 3 (λ q. omega arith), ne_eqb a.rule 4 (λ q. omega arith))
 
 -- the cells of rules 3 and 4 are the one of the walk's end, under 3 if the walk has no link, and another that is absent
-glyph_rule : (two none : Bool) (end : Cell) (a b c d : Cell) (links : ℕ) → is_glyph_rule ((choose 3 (pick none end Absent ∷ pick none Absent end ∷ a ∷ b ∷ c ∷ d ∷ []) links).rule + pick two 16 0) ≡ if_dots end false (λ dots. true)
+glyph_rule : (two none : Bool) (end : Option ℕ) (a b c d : Option ℕ) (links : ℕ) → is_glyph_rule ((choose 3 (pick none end None ∷ pick none None end ∷ a ∷ b ∷ c ∷ d ∷ []) links).rule + pick two 16 0) ≡ is_some end
 unfolding choose
-glyph_rule true true (Dots dots) a b c d links = refl
-glyph_rule true false (Dots dots) a b c d links = refl
-glyph_rule false true (Dots dots) a b c d links = refl
-glyph_rule false false (Dots dots) a b c d links = refl
-glyph_rule two true Absent a b c d links = later_rule two _ (choose_chosen 5 (a ∷ b ∷ c ∷ d ∷ []) links)
-glyph_rule two false Absent a b c d links = later_rule two _ (choose_chosen 5 (a ∷ b ∷ c ∷ d ∷ []) links)
+glyph_rule true true (Some dots) a b c d links = refl
+glyph_rule true false (Some dots) a b c d links = refl
+glyph_rule false true (Some dots) a b c d links = refl
+glyph_rule false false (Some dots) a b c d links = refl
+glyph_rule two true None a b c d links = later_rule two _ (choose_chosen 5 (a ∷ b ∷ c ∷ d ∷ []) links)
+glyph_rule two false None a b c d links = later_rule two _ (choose_chosen 5 (a ∷ b ∷ c ∷ d ∷ []) links)
 
 -- so `ifGlyph` holds exactly where the end of the alias walk has a cell; none of it is asked in the braille row
 module _ (charset : ℕ) (ds : List Definition) (c : ℕ) (braille : Bool) (e : braille ≡ is_braille c) where
@@ -50,21 +49,19 @@ module _ (charset : ℕ) (ds : List Definition) (c : ℕ) (braille : Bool) (e : 
   glyph_never q = rw (← e, q)
 
   module _ (q : braille ≡ false) (l : ℕ) (local : l ≡ local_of charset c) (w : Walked) (from : w ≡ walk_with_cell (table ds) l) where
-    glyph_walk : has_glyph charset ds c ≡ if_dots w.cell false (λ dots. true)
+    pub glyph_end : (v : Bool) → v ≡ is_some w.cell → v ≡ has_glyph charset ds c
     unfolding has_glyph lookup
-    glyph_walk = rw (← e, q, ← local, by_walk (table ds) l w from) (glyph_rule (is_private c) (eqb w.links 0) w.cell _ _ _ _ w.links)
-
-    pub glyph_end : (v : Bool) {end : Cell} → w.cell ≡ end → v ≡ if_dots end false (λ dots. true) → v ≡ has_glyph charset ds c
-    glyph_end v is h = h ∙ sym (glyph_walk ∙ rw is)
+    glyph_end v h =
+        h ∙ sym (rw (← e, q, ← local, by_walk (table ds) l w from) (glyph_rule (is_private c) (eqb w.links 0) w.cell _ _ _ _ w.links))
 
 -- a scan that has come to pair i of n; x is what it is to answer
-module _ (x : Bool) (n i : ℕ) (ws : List ℕ) (cell : ℕ) (inv : x ≡ is_character (typed_in (rest n i ws) cell)) where
+module _ (x : Bool) (n i : ℕ) (ws : List ℕ) (cell : ℕ) (inv : x ≡ is_some (typed_in (rest n i ws) cell)) where
   module _ (h : i < n) (l : 2 * n ≤ length ws) (m : Meaning) (p : m ≡ meaning_of (get_or ws (2 * i + 1) 0)) (t : Bool) (q : t ≡ types m cell) where
     pub cell_here : t ≡ true → true ≡ x
     unfolding typed_in
     cell_here r = sym (inv ∙ rw (rest_more n i ws h l, ← p, ← q, r))
 
-    pub cell_later : t ≡ false → x ≡ is_character (typed_in (rest n (i + 1) ws) cell)
+    pub cell_later : t ≡ false → x ≡ is_some (typed_in (rest n (i + 1) ws) cell)
     unfolding typed_in
     cell_later r = inv ∙ rw (rest_more n i ws h l, ← p, ← q, r)
 

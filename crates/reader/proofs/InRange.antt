@@ -1,45 +1,46 @@
 -- What a line gives: a definition is in range, and a block that opens had room and, where the line is not taken, no half that is.
 use Prim.Native.Nat.{ℕ, zero, suc, ◌-◌, ◌<◌}
 use mathlib.Core.Path.{◌≡◌, refl}
-use mathlib.Core.Bool.{Bool, true, false}
+use mathlib.Core.Bool.{Bool, true, false, beq}
 use mathlib.Core.List.{List}
 use lib.ListN.{length, drop}
 use lib.Dec.{eqb}
 use native.Mathlib.Omega.{arith}
 use borrow.Author.Tests.{le-leb, eqb-false}
+use Rattle.std.specs.Prelude.{Option, None, Some, Result, Ok, Err, IfOk}
 use Rattle.basics.specs.Ascii.{ascii}
-use Rattle.basics.specs.Choice.{pick}
-use Rattle.basics.specs.declared.Refusal.{Refusal}
-use Rattle.scalars.specs.Characters.{is_operand}
+use Rattle.basics.specs.Choice.{if_some, if_ok}
+use Rattle.basics.specs.declared.Refusal.TheVariants.{UnknownDirective}
 use Rattle.lines.specs.Words.{word_at, bytes_of, same_bytes, is_over}
 use Rattle.lines.specs.Texts.{opening_of, if_directive}
+use Rattle.lines.specs.declared.LineFault.{LineFault}
 use Rattle.lines.specs.declared.Opening.{Opening}
 use Rattle.lines.specs.declared.Opening.TheVariants as Op
-use Rattle.operands.specs.Operands.{character_at, dots_operand_at, if_value, if_dots_value}
-use Rattle.operands.specs.declared.Operand.{Operand}
-use Rattle.operands.specs.declared.Operand.TheVariants as O
-use Rattle.operands.specs.declared.DotsOperand.{DotsOperand}
-use Rattle.operands.specs.declared.DotsOperand.TheVariants as C
+use Rattle.lines.specs.declared.Parsed.{Parsed}
+use Rattle.characters.specs.declared.OperandKind.{OperandKind}
+use Rattle.characters.specs.declared.OperandKind.TheVariants.{Character}
+use Rattle.scalars.specs.Characters.{is_operand}
+use Rattle.operands.specs.Operands.{character_at, dots_operand_at, cell_operand_at}
 use Rattle.basics.proofs.Tests.{by_test}
-use Rattle.operands.proofs.InRange.{OperandInRange, DotsInRange, value_in_range, dots_in_range}
+use Rattle.operands.proofs.InRange.{value_in_range, dots_in_range, cell_operand_in_range}
 use Rattle.blocks.specs.Internal.{RoomFor}
 use Rattle.blocks.specs.declared.BlockLine.{BlockLine}
 use Rattle.blocks.specs.declared.BlockLine.TheVariants.{Open, Else, EndIf}
 use Rattle.blocks.specs.declared.Around.{Around}
-use Rattle.definitions.specs.declared.Meaning.TheVariants as M
 use Rattle.definitions.specs.declared.Definition.{Definition}
+use Rattle.definitions.specs.declared.Meaning.TheVariants.{Alias}
+use Rattle.reader.specs.Conditions.{has_glyph, has_cell}
 use Rattle.table.proofs.Readback.{InRange, is_number_in_range}
-use Rattle.reader.specs.Reader.{directive_of, finished, dots_line, alias_line, condition_at, glyph_condition, cell_condition, faulty, after_directive, front_of, without_effect, if_holds, on_front, read_from, block_line, read_first, read_line}
+use Rattle.reader.specs.Reader.{directive_of, finished, define, dots_meaning, dots_line, alias_line, condition_at, glyph_condition, cell_condition, has_room, after_directive, front_of, without_effect, if_holds, on_front, read_from, block_line, read_first, read_line}
 use Rattle.reader.specs.declared.Directive.{Directive}
 use Rattle.reader.specs.declared.Directive.TheVariants as D
 use Rattle.reader.specs.declared.Reading.{Reading}
-use Rattle.reader.specs.declared.Reading.TheVariants.{Fault, NoEffect, Define, Block}
+use Rattle.reader.specs.declared.Reading.TheVariants.{NoEffect, Define, Block}
 use Rattle.reader.specs.declared.Front.{Front}
 use Rattle.reader.specs.declared.Front.TheVariants.{Whole, Condition}
 
 -- with room for so many conditions
 abbrev ReadingInRange : ℕ → Reading → Type 0
-ReadingInRange room (Fault refusal left) = Unit
 ReadingInRange room NoEffect = Unit
 ReadingInRange room (Define d left) = InRange d
 ReadingInRange room (Block line) = RoomFor room line
@@ -48,66 +49,68 @@ abbrev FrontInRange : ℕ → Front → Type 0
 FrontInRange room (Whole reading) = ReadingInRange room reading
 FrontInRange room (Condition holds rest) = Unit
 
--- what holds of a fault and of each answer in range holds of what follows from an operand
-module _ {A : Type 0} (P : A → Type 0) (bad : Refusal → ℕ → A) (fault : (refusal : Refusal) (left : ℕ) → P (bad refusal left)) where
-  each_value : (charset : ℕ) (byte : Bool) (line : List ℕ) (at : ℕ) (good : ℕ → ℕ → A) → ((c after : ℕ) → is_operand c ≡ true → P (good c after))
-      → P (if_value (character_at charset byte line at) bad good)
-  each_value charset byte line at good h = go (character_at charset byte line at) (value_in_range charset byte line at)
-    where
-      go : (o : Operand) → OperandInRange o → P (if_value o bad good)
-      go (O.Fault refusal left) r = fault refusal left
-      go (O.Value c after) r = h c after r
+-- what a character operand answers, and a dots or cell operand
+abbrev Standing : Parsed ℕ → Type 0
+Standing p = is_operand p.value ≡ true
 
-  each_dots : (parentheses : Bool) (line : List ℕ) (at : ℕ) (good : ℕ → ℕ → A) → ((cell after : ℕ) → cell < 256 → P (good cell after))
-      → P (if_dots_value (dots_operand_at parentheses line at) bad good)
-  each_dots parentheses line at good h = go (dots_operand_at parentheses line at) (dots_in_range parentheses line at)
-    where
-      go : (o : DotsOperand) → DotsInRange o → P (if_dots_value o bad good)
-      go (C.Fault refusal left) r = fault refusal left
-      go (C.Value cell after) r = h cell after r
+abbrev Small : Parsed ℕ → Type 0
+Small p = p.value < 256
 
--- what holds of faults and of an answer holds of it before the line's end; and what holds of all that a line may be holds of the line
-module _ (P : Reading → Type 0) (fault : (refusal : Refusal) (left : ℕ) → P (Fault refusal left)) (line : List ℕ) where
-  each_finished : (at : ℕ) (reading : Reading) → P reading → P (finished line at reading)
+-- P holds of the value of r, if it has one
+record Each {A : Type 0} (P : A → Type 0) (r : Result A LineFault) : Type 0 where
+  value : IfOk r P
+
+fault_each : {A : Type 0} (P : A → Type 0) (fault : LineFault) → Each P (Err fault)
+fault_each P fault = record { value = tt }
+
+-- what holds of each value holds of what follows from it
+then : {A B : Type 0} (P : A → Type 0) (Q : B → Type 0) (r : Result A LineFault) (more : A → Result B LineFault) → IfOk r P → ((a : A) → P a → Each Q (more a)) → Each Q (if_ok r more)
+then P Q (Ok a) more h k = k a h
+then P Q (Err fault) more h k = record { value = tt }
+
+-- what holds of an answer holds of it before the line's end; and what holds of all that a line may be holds of the line
+module _ (P : Reading → Type 0) (line : List ℕ) where
+  each_finished : (at : ℕ) (reading : Reading) → P reading → Each P (finished line at reading)
   unfolding finished
-  each_finished at reading h = by_test P (is_over line at) (λ e. h) (λ e. fault _ _)
+  each_finished at reading h = by_test (Each P) (is_over line at) (λ e. record { value = h }) (λ e. record { value = tt })
 
-  each_block : (may : Bool) (read : BlockLine) (at left : ℕ) → P (Block read) → P (block_line may read line at left)
+  each_block : (may : Bool) (read : BlockLine) (at left : ℕ) → P (Block read) → Each P (block_line may read line at left)
   unfolding block_line
-  each_block may read at left h = by_test P may (λ e. each_finished at (Block read) h) (λ e. fault _ _)
+  each_block may read at left h = by_test (Each P) may (λ e. each_finished at (Block read) h) (λ e. record { value = tt })
 
-  each_line : (charset : ℕ) (ds : List Definition) (around : Around) → P NoEffect → P (Block Else) → P (Block EndIf) → P (if_holds around.taken (read_from charset ds around.room line))
-      → P (read_line charset ds around line)
+  each_line : (charset : ℕ) (ds : List Definition) (around : Around) → P NoEffect → P (Block Else) → P (Block EndIf)
+      → Each P (if_ok (read_from charset ds around.room line) (λ reading. Ok (if_holds around.taken reading)))
+      → Each P (read_line charset ds around line)
   unfolding read_line read_first
   each_line charset ds around skipped turned closed other = go (opening_of line)
     where
-      go : (o : Opening) → P (if_directive o Fault NoEffect (read_first charset ds around line))
-      go (Op.Fault refusal left) = fault refusal left
-      go Op.Skip = skipped
-      go Op.Directive =
+      go : (o : Result Opening LineFault) → Each P (if_directive o (Ok NoEffect) (read_first charset ds around line))
+      go (Err fault) = record { value = tt }
+      go (Ok Op.Skip) = record { value = skipped }
+      go (Ok Op.Directive) =
           let w = word_at line 0 in
-          by_test P (same_bytes (bytes_of line w) (ascii "else")) (λ e. each_block around.turns Else _ _ turned)
-          (λ e. by_test P (same_bytes (bytes_of line w) (ascii "endIf")) (λ e. each_block around.closes EndIf _ _ closed) (λ e. other))
+          by_test (Each P) (same_bytes (bytes_of line w) (ascii "else")) (λ e. each_block around.turns Else _ _ turned)
+          (λ e. by_test (Each P) (same_bytes (bytes_of line w) (ascii "endIf")) (λ e. each_block around.closes EndIf _ _ closed) (λ e. other))
 
 -- dots of either kind
-dots_meaning : (typed : Bool) (cell : ℕ) → cell < 256 → is_number_in_range (pick typed (M.Typed cell) (M.Shown cell)) ≡ true
-dots_meaning true cell l = le-leb cell 255 (omega arith)
-dots_meaning false cell l = le-leb cell 255 (omega arith)
+meaning_in_range : (typed : Bool) (cell : ℕ) → cell < 256 → is_number_in_range (dots_meaning typed cell) ≡ true
+meaning_in_range true cell l = le-leb cell 255 (omega arith)
+meaning_in_range false cell l = le-leb cell 255 (omega arith)
 
 module _ (charset room : ℕ) where
-  dots_line_lem : (byte typed : Bool) (line : List ℕ) (at left : ℕ) → ReadingInRange room (dots_line charset byte typed line at left)
+  dots_line_lem : (kind : OperandKind) (typed : Bool) (line : List ℕ) (at left : ℕ) → Each (ReadingInRange room) (dots_line charset kind typed line at left)
   unfolding dots_line
-  dots_line_lem byte typed line at left =
-      each_value (ReadingInRange room) Fault (λ refusal left. tt) charset byte line at _
-      (λ c after h. each_dots (ReadingInRange room) Fault (λ refusal left. tt) true line after _
-      (λ cell end l. each_finished (ReadingInRange room) (λ refusal left. tt) line end _ (record { character = h; number = dots_meaning typed cell l })))
+  dots_line_lem kind typed line at left =
+      then Standing (ReadingInRange room) (character_at charset kind line at) _ (value_in_range charset kind line at)
+      (λ c h. then Small (ReadingInRange room) (dots_operand_at line c.after) _ (dots_in_range line c.after)
+      (λ dots l. each_finished (ReadingInRange room) line dots.after (define c.value (dots_meaning typed dots.value) left) (record { character = h; number = meaning_in_range typed dots.value l })))
 
-  alias_line_lem : (line : List ℕ) (at left : ℕ) → ReadingInRange room (alias_line charset line at left)
+  alias_line_lem : (line : List ℕ) (at left : ℕ) → Each (ReadingInRange room) (alias_line charset line at left)
   unfolding alias_line
   alias_line_lem line at left =
-      each_value (ReadingInRange room) Fault (λ refusal left. tt) charset false line at _
-      (λ c after h. each_value (ReadingInRange room) Fault (λ refusal left. tt) charset false line after _
-      (λ target end g. each_finished (ReadingInRange room) (λ refusal left. tt) line end _ (record { character = h; number = g })))
+      then Standing (ReadingInRange room) (character_at charset Character line at) _ (value_in_range charset Character line at)
+      (λ c h. then Standing (ReadingInRange room) (character_at charset Character line c.after) _ (value_in_range charset Character line c.after)
+      (λ target g. each_finished (ReadingInRange room) line target.after (define c.value (Alias target.value) left) (record { character = h; number = g })))
 
   -- a condition gives no definition, and is read only where there is room
   module _ (some : 0 < room) (line : List ℕ) where
@@ -115,15 +118,19 @@ module _ (charset room : ℕ) where
     unfolding condition_at
     condition_front after holds = by_test (FrontInRange room) (is_over line after) (λ e. some) (λ e. tt)
 
-    glyph_front : (ds : List Definition) (wanted : Bool) (at : ℕ) → FrontInRange room (glyph_condition charset ds wanted line at)
+    glyph_front : (ds : List Definition) (wanted : Bool) (at : ℕ) → Each (FrontInRange room) (glyph_condition charset ds wanted line at)
     unfolding glyph_condition
-    glyph_front ds wanted at = each_value (FrontInRange room) faulty (λ refusal left. tt) charset false line at _ (λ c after h. condition_front after _)
+    glyph_front ds wanted at =
+        then Standing (FrontInRange room) (character_at charset Character line at) _ (value_in_range charset Character line at)
+        (λ c h. record { value = condition_front c.after (beq (has_glyph charset ds c.value) wanted) })
 
-    cell_front : (ds : List Definition) (wanted : Bool) (at : ℕ) → FrontInRange room (cell_condition ds wanted line at)
+    cell_front : (ds : List Definition) (wanted : Bool) (at : ℕ) → Each (FrontInRange room) (cell_condition ds wanted line at)
     unfolding cell_condition
-    cell_front ds wanted at = each_dots (FrontInRange room) faulty (λ refusal left. tt) false line at _ (λ cell after l. condition_front after _)
+    cell_front ds wanted at =
+        then Small (FrontInRange room) (cell_operand_at line at) _ (cell_operand_in_range line at)
+        (λ c h. record { value = condition_front c.after (beq (has_cell ds c.value) wanted) })
 
-  front_in_range : (ds : List Definition) (line : List ℕ) → FrontInRange room (front_of charset ds room line)
+  front_in_range : (ds : List Definition) (line : List ℕ) → Each (FrontInRange room) (front_of charset ds room line)
   unfolding front_of
   front_in_range ds line =
       let w = word_at line 0 in
@@ -132,12 +139,21 @@ module _ (charset room : ℕ) where
       some : eqb room 0 ≡ false → 0 < room
       some e = let n = eqb-false room 0 e in omega arith
 
-      go : (directive : Directive) (at left : ℕ) → FrontInRange room (after_directive charset ds room line directive at left)
-      go D.Unknown at left = tt
-      go (D.ByDots byte typed) at left = dots_line_lem byte typed line at left
-      go D.ByAlias at left = alias_line_lem line at left
-      go (D.IfGlyph wanted) at left = by_test (FrontInRange room) (eqb room 0) (λ e. tt) (λ e. glyph_front (some e) line ds wanted at)
-      go (D.IfCell wanted) at left = by_test (FrontInRange room) (eqb room 0) (λ e. tt) (λ e. cell_front (some e) line ds wanted at)
+      roomy : (left : ℕ) (r : Result Front LineFault) → (0 < room → Each (FrontInRange room) r) → Each (FrontInRange room) (if_ok (has_room room left) (λ u. r))
+      roomy left r h = by_test (λ (u : Result (Unit {0}) LineFault). Each (FrontInRange room) (if_ok u (λ v. r))) (eqb room 0) (λ e. record { value = tt }) (λ e. h (some e))
+
+      whole : (r : Result Reading LineFault) → Each (ReadingInRange room) r → Each (FrontInRange room) (if_ok r (λ reading. Ok (Whole reading)))
+      whole r h = then (ReadingInRange room) (FrontInRange room) r _ h.value (λ reading k. record { value = k })
+
+      known : (directive : Directive) (at left : ℕ) → Each (FrontInRange room) (after_directive charset ds room line directive at left)
+      known (D.ByDots kind typed) at left = whole _ (dots_line_lem kind typed line at left)
+      known D.ByAlias at left = whole _ (alias_line_lem line at left)
+      known (D.IfGlyph wanted) at left = roomy left _ (λ h. glyph_front h line ds wanted at)
+      known (D.IfCell wanted) at left = roomy left _ (λ h. cell_front h line ds wanted at)
+
+      go : (directive : Option Directive) (at left : ℕ) → Each (FrontInRange room) (if_some directive (Err (record { refusal = UnknownDirective; left = left })) (λ d. after_directive charset ds room line d at left))
+      go None at left = record { value = tt }
+      go (Some directive) at left = known directive at left
 
 module _ (room : ℕ) where
   holds_in_range : (holds : Bool) (reading : Reading) → ReadingInRange room reading → ReadingInRange room (if_holds holds reading)
@@ -145,39 +161,37 @@ module _ (room : ℕ) where
   holds_in_range holds reading h = by_test (ReadingInRange room) holds (λ e. h) (λ e. without reading h)
     where
       without : (r : Reading) → ReadingInRange room r → ReadingInRange room (without_effect r)
-      without (Fault refusal left) k = tt
       without NoEffect k = tt
       without (Define d left) k = tt
       without (Block (Open first second)) k = k
       without (Block Else) k = tt
       without (Block EndIf) k = tt
 
-  on_front_lem : (front : Front) (more : Bool → ℕ → Reading) → FrontInRange room front → ((holds : Bool) (rest : ℕ) → ReadingInRange room (more holds rest))
-      → ReadingInRange room (on_front front more)
-  on_front_lem (Whole reading) more h k = h
-  on_front_lem (Condition holds rest) more h k = k holds rest
+  on_front_lem : (more : Bool → ℕ → Result Reading LineFault) → ((holds : Bool) (rest : ℕ) → Each (ReadingInRange room) (more holds rest))
+      → (front : Front) → FrontInRange room front → Each (ReadingInRange room) (on_front front more)
+  on_front_lem more k (Whole reading) h = record { value = h }
+  on_front_lem more k (Condition holds rest) h = k holds rest
 
   -- what had room for a condition less
   more_room : (reading : Reading) → ReadingInRange room reading → ReadingInRange (suc room) reading
-  more_room (Fault refusal left) h = tt
   more_room NoEffect h = tt
   more_room (Define d left) h = h
   more_room (Block (Open first second)) h = omega arith
   more_room (Block Else) h = tt
   more_room (Block EndIf) h = tt
 
-from_in_range : (charset : ℕ) (ds : List Definition) (room : ℕ) (line : List ℕ) → ReadingInRange room (read_from charset ds room line)
+from_in_range : (charset : ℕ) (ds : List Definition) (room : ℕ) (line : List ℕ) → Each (ReadingInRange room) (read_from charset ds room line)
 unfolding read_from
-from_in_range charset ds zero line = on_front_lem zero (front_of charset ds zero line) (λ holds rest. NoEffect) (front_in_range charset zero ds line) (λ holds rest. tt)
+from_in_range charset ds zero line =
+    then (FrontInRange zero) (ReadingInRange zero) (front_of charset ds zero line) _ (front_in_range charset zero ds line).value (on_front_lem zero (λ holds rest. Ok NoEffect) (λ holds rest. record { value = tt }))
 from_in_range charset ds (suc room) line =
-    on_front_lem (suc room) (front_of charset ds (suc room) line) _ (front_in_range charset (suc room) ds line)
-    (λ holds rest.
-    let r : Reading = read_from charset ds room (drop rest line) in
-    holds_in_range (suc room) holds r (more_room room r (from_in_range charset ds room (drop rest line))))
+    then (FrontInRange (suc room)) (ReadingInRange (suc room)) (front_of charset ds (suc room) line) _ (front_in_range charset (suc room) ds line).value
+    (on_front_lem (suc room) _ (λ holds rest.
+    then (ReadingInRange room) (ReadingInRange (suc room)) (read_from charset ds room (drop rest line)) _ (from_in_range charset ds room (drop rest line)).value
+    (λ reading h. record { value = holds_in_range (suc room) holds reading (more_room room reading h) })))
 
 -- a line not taken opens a block without a half that is
 abbrev NoHalf : Reading → Type 0
-NoHalf (Fault refusal left) = Unit
 NoHalf NoEffect = Unit
 NoHalf (Define d left) = Unit
 NoHalf (Block (Open first second)) = (first ≡ false) × (second ≡ false)
@@ -185,7 +199,6 @@ NoHalf (Block Else) = Unit
 NoHalf (Block EndIf) = Unit
 
 without_half : (r : Reading) → NoHalf (without_effect r)
-without_half (Fault refusal left) = tt
 without_half NoEffect = tt
 without_half (Define d left) = tt
 without_half (Block (Open first second)) = (refl, refl)
@@ -193,20 +206,27 @@ without_half (Block Else) = tt
 without_half (Block EndIf) = tt
 
 module _ (charset : ℕ) (ds : List Definition) (around : Around) (line : List ℕ) where
-  read_in_range : ReadingInRange around.room (read_line charset ds around line)
+  read_in_range : Each (ReadingInRange around.room) (read_line charset ds around line)
   read_in_range =
-      each_line (ReadingInRange around.room) (λ refusal left. tt) line charset ds around tt tt tt
-      (holds_in_range around.room around.taken (read_from charset ds around.room line) (from_in_range charset ds around.room line))
+      each_line (ReadingInRange around.room) line charset ds around tt tt tt
+      (then (ReadingInRange around.room) (ReadingInRange around.room) (read_from charset ds around.room line) _ (from_in_range charset ds around.room line).value (λ reading h. record { value = holds_in_range around.room around.taken reading h }))
 
   -- the definition that a line gives is in range
-  pub line_in_range : {d : Definition} {left : ℕ} → read_line charset ds around line ≡ Define d left → InRange d
-  line_in_range e = rw e at read_in_range
+  pub line_in_range : {d : Definition} {left : ℕ} → read_line charset ds around line ≡ Ok (Define d left) → InRange d
+  line_in_range e = rw e at read_in_range.value
 
   -- a block that a line opens had room
-  pub line_had_room : {read : BlockLine} → read_line charset ds around line ≡ Block read → RoomFor around.room read
-  line_had_room e = rw e at read_in_range
+  pub line_had_room : {read : BlockLine} → read_line charset ds around line ≡ Ok (Block read) → RoomFor around.room read
+  line_had_room e = rw e at read_in_range.value
 
   -- and, where the line is not taken, no half that is
-  pub line_no_half : {first second : Bool} → around.taken ≡ false → read_line charset ds around line ≡ Block (Open first second) → (first ≡ false) × (second ≡ false)
+  pub line_no_half : {first second : Bool} → around.taken ≡ false → read_line charset ds around line ≡ Ok (Block (Open first second)) → (first ≡ false) × (second ≡ false)
   unfolding if_holds
-  line_no_half untaken e = rw e at (each_line NoHalf (λ refusal left. tt) line charset ds around tt tt tt (rw untaken (without_half (read_from charset ds around.room line))))
+  line_no_half untaken e =
+      rw e at
+      (each_line NoHalf line charset ds around tt tt tt
+      (then (λ r. Unit) NoHalf (read_from charset ds around.room line) _ (any (read_from charset ds around.room line)) (λ reading h. record { value = rw untaken (without_half reading) }))).value
+    where
+      any : (r : Result Reading LineFault) → IfOk r (λ q. Unit)
+      any (Ok q) = tt
+      any (Err fault) = tt

@@ -37,9 +37,7 @@ impl<T: Finder> Rules<T> {
     // Asks for the cells of rules 7 and 8, once for all characters of a call.
     #[tactic(auto, using(crate::proofs::Choices::both_asked))]
     pub fn new(finder: T, charset: u32) -> Rules<T>
-        ensures finder { result.finder ≡ finder }
-        ensures charset { result.charset ≡ charset }
-        ensures last { result.last ≡ last_cells (table (T.definitions finder)) }
+        ensures { result ≡ record { finder = finder; charset = charset; last = last_cells (table (T.definitions finder)) } }
     {
         let replacement = pairs::explicit_cell(&finder, 0xFFFD);
         let question = pairs::explicit_cell(&finder, 0x3F);

@@ -1,39 +1,50 @@
--- What the scan of the words fills, and what the typing call answers and hands back, as its tests and calls decide it.
-use Prim.Native.Nat.{ℕ, ◌+◌, ◌*◌, ◌≤◌, ◌<◌}
-use mathlib.Core.Path.{◌≡◌, ap, ◌∙◌, sym}
-use mathlib.Core.List.{List}
-use native.Mathlib.Omega.{arith}
-use lib.ListN.{length, get_or, replicate}
-use Rattle.basics.specs.Refusals.{number_of, answered, refused, filling_reply}
-use Rattle.basics.specs.declared.Refusal.{Refusal}
-use Rattle.basics.specs.declared.Filling.{Filling}
-use Rattle.basics.specs.declared.Filling.TheVariants.{Filled, Refused}
+-- What the scan of the words fills.
+use Rattle.std.specs.Prelude.{ℕ, ◌+◌, ◌*◌, ◌<◌, ◌≡◌, true, false, List, Option, None, Some, is_some, length, get_or, set, replicate}
+use Rattle.std.proofs.Common.{refl}
+use mathlib.Core.Logic.{◌⊎◌, inl, inr}
+use lib.Seq.{set-get_or}
 use Rattle.definitions.specs.declared.Meaning.{Meaning}
-use Rattle.definitions.specs.declared.Definition.{Definition}
+use Rattle.definitions.specs.declared.Meaning.TheVariants.{Typed, Shown, Alias}
 use Rattle.pairs.specs.Words.{meaning_of, definition_of, definitions}
-use Rattle.table.specs.Check.{lent_table}
-use Rattle.pairs.proofs.Pairs.{definitions_more}
-use Rattle.typing.specs.declared.Entry.{Entry}
-use Rattle.typing.specs.Typing.{nothing, with_meaning, entries_of, typing_reply, typing_entries}
+use Rattle.pairs.proofs.Scan.{definitions_more}
+use Rattle.typing.specs.Typing.{nothing, with_meaning, filled_from, entries_of}
 use Rattle.typing.proofs.TypedCells.{entries_more}
 
--- a scan that has come to pair i; m is what that pair says, k its case
-pub scan_on : (ws : List ℕ) (i : ℕ) {es more : List Entry} {m k : Meaning} → es ≡ entries_of (definitions i ws) → 2 * i + 1 < length ws → m ≡ meaning_of (get_or ws (2 * i + 1) 0)
-    → m ≡ k → more ≡ with_meaning es (get_or ws (2 * i) 0) k → more ≡ entries_of (definitions (i + 1) ws)
-scan_on ws i here l p q e =
-    e ∙ rw (← q, p, here) (sym (ap (λ (ds : List Definition). entries_of ds) (definitions_more i ws l)
-    ∙ entries_more (definitions i ws) (definition_of (get_or ws (2 * i) 0) (get_or ws (2 * i + 1) 0))))
+-- what a `char` definition of c leaves of an entry table es: its cell typed nothing, or stays
+abbrev Filled : List (Option ℕ) → ℕ → ℕ → List (Option ℕ) → Type 0
+Filled es c dots more =
+    ((is_some (get_or es dots nothing) ≡ false) × (more ≡ set es dots (Some c)))
+    ⊎ ((is_some (get_or es dots nothing) ≡ true) × (more ≡ es))
 
-pub scan_over : (ws : List ℕ) (n i : ℕ) {es : List Entry} → i ≤ n → n ≤ i → es ≡ entries_of (definitions i ws) → es ≡ entries_of (definitions n ws)
-scan_over ws n i h k here = let all : n ≡ i = omega arith in rw all here
+filled : (es : List (Option ℕ)) (c dots : ℕ) → Filled es c dots (with_meaning es c (Typed dots))
+filled es c dots = go (get_or es dots nothing) refl
+  where
+    go : (typed : Option ℕ) → get_or es dots nothing ≡ typed → Filled es c dots (with_meaning es c (Typed dots))
+    go None e = inl (rw e, rw e)
+    go (Some earlier) e = inr (rw e, rw (e, ← e, set-get_or es dots nothing))
 
--- the answer and the entries of the call
-abbrev pub Settles : List ℕ → Filling → List Entry → Type 0
-Settles ws answer entries = (filling_reply answer ≡ typing_reply ws) × (entries ≡ typing_entries ws)
+-- and what any does
+abbrev Means : Meaning → List (Option ℕ) → ℕ → List (Option ℕ) → Type 0
+Means m es c more =
+    ((dots : ℕ) × (m ≡ Typed dots) × Filled es c dots more)
+    ⊎ (((dots : ℕ) × (m ≡ Shown dots) × (more ≡ es)) ⊎ ((target : ℕ) × (m ≡ Alias target) × (more ≡ es)))
 
-pub refused_entries : (ws : List ℕ) {refusal : Refusal} {place : ℕ} {answer : Filling} {entries : List Entry}
-    → lent_table ws ≡ refused (number_of refusal) place → answer ≡ Refused refusal place → entries ≡ replicate 256 nothing → Settles ws answer entries
-refused_entries ws q e none = (rw (e, q), rw q none)
+means : (m : Meaning) (es : List (Option ℕ)) (c : ℕ) → Means m es c (with_meaning es c m)
+means (Typed dots) es c = inl (dots, refl, filled es c dots)
+means (Shown dots) es c = inr (inl (dots, refl, refl))
+means (Alias target) es c = inr (inr (target, refl, refl))
 
-pub filled_entries : (ws : List ℕ) {ds : List Definition} {entries : List Entry} → lent_table ws ≡ answered ds → entries ≡ entries_of ds → Settles ws Filled entries
-filled_entries ws q e = (rw q, rw q e)
+-- a scan that has come to no pair
+pub scan_first : (ws : List ℕ) → entries_of (definitions 0 ws) ≡ replicate 256 nothing
+unfolding filled_from definitions
+scan_first ws = refl
+
+-- a scan that has come to pair i. The first part is trivially true: it shows which terms the second is of
+pub scan_on : (ws : List ℕ) (i : ℕ) → 2 * i + 1 < length ws
+    → (entries_of (definitions (i + 1) ws) ≡ entries_of (definitions (i + 1) ws))
+    × Means (meaning_of (get_or ws (2 * i + 1) 0)) (entries_of (definitions i ws)) (get_or ws (2 * i) 0) (entries_of (definitions (i + 1) ws))
+scan_on ws i l =
+    let d = definition_of (get_or ws (2 * i) 0) (get_or ws (2 * i + 1) 0) in
+    (refl, rw (definitions_more i ws l, entries_more (definitions i ws) d) (means d.meaning (entries_of (definitions i ws)) d.character))
+
+pub ruleset scanned = (scan_first, scan_on)

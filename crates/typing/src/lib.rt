@@ -1,7 +1,7 @@
 // From a typed cell to its character.
 #![tactic(auto)]
 
-ghost use Rattle.std.specs.Prelude.{◌≡◌, replicate, None};
+ghost use Rattle.std.specs.Prelude.{◌≡◌};
 ghost use Rattle.basics.specs.Refusals.{reply_of};
 ghost use Rattle.pairs.specs.Words.{definitions};
 ghost use Rattle.typing.specs.Typing.{entries_of, typing_reply, typing_entries};
@@ -10,8 +10,8 @@ use basics::Refused;
 use definitions::Meaning;
 use pairs::Pairs;
 
-// What the typing call hands back: its answer, and what each of the 256 cells types. A refused call promises that no cell
-// types anything, so the entries stand beside the answer.
+// What the typing call hands back: its answer, and what each of the 256 cells types. A refused call promises that no
+// cell types anything, so the entries stand beside the answer.
 #[derive(Clone, Copy)]
 pub struct Entries {
     pub answer: Result<(), Refused>,
@@ -19,8 +19,9 @@ pub struct Entries {
 }
 
 // The entry table: each cell at first typing nothing, then from the `char` definitions in order, the earliest kept.
+#[tactic(auto, using(crate::proofs::Calls::scanned))]
 fn fill_entries(pairs: Pairs<'_>) -> [Option<u32>; 256]
-    ensures { result ≡ entries_of (definitions pairs.count pairs.words.now) }
+    ensures { result ≡ entries_of (definitions pairs.entry.count pairs.entry.words.now) }
 {
     let mut entries = [None; 256];
     for i in 0..pairs.count {

@@ -96,3 +96,5 @@ start_on p q b i n h e k = later_within (at_end q) (i + 1) n (rw e (byte_within 
 
 pub start_end : (p : Utf8State) (i n : ℕ) (r : Result Unit BadSequence) → StartWithin p i → i ≤ n → r ≡ at_end p → BadWithin r n
 start_end p i n r h k e = later_within r i n (rw e h) k
+
+pub ruleset checked = (ascii_good, start_on, start_end)

@@ -115,8 +115,8 @@ fn resume(line: &[u8], at: usize, p: Utf8State) -> usize
     }
 }
 
-// The bits that the bytes of a line have between them, below 0x80 if all are ASCII. It goes to the line's end at once, so
-// that it is compiled to take several bytes at a time.
+// The bits that the bytes of a line have between them, below 0x80 if all are ASCII. It goes to the line's end at once,
+// so that it is compiled to take several bytes at a time.
 #[tactic(auto, using(crate::proofs::Utf8::bits_fold))]
 fn bits_of(line: &[u8]) -> u8
     ensures { result ≡ bits_of line.now }
@@ -125,6 +125,7 @@ fn bits_of(line: &[u8]) -> u8
 }
 
 // Whether all of `line` is UTF-8; if not, where the first bad sequence begins.
+#[tactic(auto, using(crate::proofs::Utf8::checked), unfolding(crate::specs::Utf8::utf8_from))]
 pub fn check_utf8(line: &[u8]) -> Result<(), BadSequence>
     ensures value { result ≡ utf8 line.now }
     ensures bad_within { BadWithin result (length line.now) }

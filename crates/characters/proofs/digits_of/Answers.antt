@@ -1,13 +1,11 @@
-use borrow.Author.Rules.{rules}
-use Rattle.characters.proofs.Characters.{digits_on, digits_none}
-use mathlib.Core.Path.{refl}
+use Rattle.characters.proofs.Digits.{digits_on, digits_over, digits_end}
 use Rattle.characters.proofs.digits_of.Goals as goal
 
-pub loop-i-init : goal.loop-i-init
-loop-i-init c = (search rules, search rules, refl)
+pub returns-in_err-n : goal.returns-in_err-n
+returns-in_err-n c = rw c.from_residual.ensures (digits_over c.args.radix c.args.digits.now c.loop-b.b-index c.loop-b.n c.loop-b.invariant.whole c.loop-b-test.true c.in_err-n.ensures.value)
 
-pub loop-i-preserved : goal.loop-i-preserved
-loop-i-preserved c = (search rules, search rules, search digits_on)
+pub loop-b-preserved : goal.loop-b-preserved
+loop-b-preserved c = record { number = c.in_ok-n.ensures.number; whole = digits_on c.args.radix c.args.digits.now c.loop-b.b-index c.loop-b.n c.loop-b.invariant.whole c.in_ok-n.n c.loop-b-test.true c.in_ok-n.ensures.value }
 
 pub returns : goal.returns
-returns c = record { is = search digits_none; small = search rules }
+returns c = digits_end c.args.radix c.args.digits.now c.loop-b.b-index c.loop-b.n c.loop-b.invariant.whole c.loop-b-test.false

@@ -1,12 +1,7 @@
-use Rattle.characters.specs.Characters.{digits_from}
-use Prim.Native.Nat.{◌-◌, ◌≤◌}
-use lib.ListN.{length, drop}
-use mathlib.Core.Path.{◌≡◌}
+use Rattle.std.proofs.Common.{◌≡◌, ◌<◌, drop}
+use Rattle.characters.specs.Characters.{no_number, digits_from}
 use Rattle.characters.proofs.digits_of.Given as goal
 
--- the digits from i on, behind the number before them, are the whole number
-abbrev pub invariant-loop-i : goal.invariant-loop-i
-invariant-loop-i l = (l.i ≤ length l.w) × (l.n ≤ 0x110000) × (digits_from l.radix (drop l.i l.w) l.n ≡ digits_from l.radix (drop 2 l.w) 0)
-
-abbrev pub decreases-loop-i : goal.decreases-loop-i
-decreases-loop-i l = length l.w - l.i
+-- the digits from here on, behind the number before them, are the whole number
+abbrev pub invariant-loop-b : goal.invariant-loop-b
+invariant-loop-b l = record { number : l.n < no_number; whole : digits_from l.radix (drop l.b-index l.digits) l.n ≡ digits_from l.radix l.digits 0 }

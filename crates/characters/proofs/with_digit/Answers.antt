@@ -1,26 +1,13 @@
-use native.Mathlib.Nat.{mul-le-mul}
-use native.Mathlib.Omega.{arith}
-use borrow.Author.Rules.{rules}
-use Rattle.basics.proofs.Tests.{tests}
-use Rattle.characters.specs.Characters.{with_digit}
+use Rattle.std.proofs.Common.{arith, sym}
+use Rattle.characters.proofs.Digits.{no_digit, digit_next}
 use Rattle.characters.proofs.with_digit.Goals as goal
 
-pub returns-then-radix-d : goal.returns-then-radix-d
-unfolding with_digit
-returns-then-radix-d c = (search tests, search rules)
+pub returns-in_err-digit-clause-value : goal.returns-in_err-digit-clause-value
+returns-in_err-digit-clause-value c =
+    let high = rw c.from.ensures at c.in_err-digit.ensures.value in
+    rw c.from_residual.ensures (sym (no_digit c.args.radix c.args.n c.args.b c.ranges.b.fits c.requires.radix_most (λ low. high (omega arith))))
 
-pub overflow_mul-more : goal.overflow_mul-more
-unfolding with_digit
-overflow_mul-more c = omega (arith, mul-le-mul c.requires.1 c.requires.0)
-
-pub overflow_add-more : goal.overflow_add-more
-unfolding with_digit
-overflow_add-more c = omega (arith, mul-le-mul c.requires.1 c.requires.0)
-
-pub returns-then-more-lt-NO_NUMBER : goal.returns-then-more-lt-NO_NUMBER
-unfolding with_digit
-returns-then-more-lt-NO_NUMBER c = (search tests, search rules)
-
-pub returns-else-more-lt-NO_NUMBER : goal.returns-else-more-lt-NO_NUMBER
-unfolding with_digit
-returns-else-more-lt-NO_NUMBER c = (search tests, search rules)
+pub returns-clause-value : goal.returns-clause-value
+returns-clause-value c =
+    let v = rw c.from.ensures at c.in_ok-digit.ensures.value in
+    digit_next c.args.radix c.args.n c.args.b c.ranges.b.fits c.requires.radix_most c.in_ok-digit.digit c.then_some.result v.0 v.1 c.then_some.ensures

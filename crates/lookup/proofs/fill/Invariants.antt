@@ -1,17 +1,11 @@
-use Prim.Native.Nat.{ℕ, ◌≤◌, ◌-◌}
-use mathlib.Core.Path.{◌≡◌}
-use lib.ListN.{length}
-use Rattle.pairs.specs.Words.{charset_of, table_of}
+use Rattle.std.proofs.Common.{ℕ, ◌≡◌}
+use Rattle.definitions.specs.Definitions.{table}
 use Rattle.rules.specs.Internal.{lookup_by}
 use Rattle.lookup.proofs.Buffers.{filled_to}
 use Rattle.lookup.proofs.fill.Given as goal
 
--- each buffer is filled up to i, and keeps its length
+-- Each buffer is filled up to i.
 abbrev pub invariant-loop-i : goal.invariant-loop-i
-invariant-loop-i l =
-    (l.i ≤ length l.characters) × (length l.cells ≡ length l.initial.cells) × (length l.rules ≡ length l.initial.rules)
-    × (l.cells ≡ filled_to (λ (x : ℕ). (lookup_by (charset_of l.words) (table_of l.count l.words) l.last x).cell) l.characters l.i l.initial.cells)
-    × (l.rules ≡ filled_to (λ (x : ℕ). (lookup_by (charset_of l.words) (table_of l.count l.words) l.last x).rule) l.characters l.i l.initial.rules)
-
-abbrev pub decreases-loop-i : goal.decreases-loop-i
-decreases-loop-i l = length l.characters - l.i
+invariant-loop-i g l =
+    (l.cells ≡ filled_to (λ (x : ℕ). (lookup_by l.by.charset (table (g.T.Finder.definitions l.by.finder)) l.by.last x).cell) l.characters l.i l.initial.cells)
+    × (l.rules ≡ filled_to (λ (x : ℕ). (lookup_by l.by.charset (table (g.T.Finder.definitions l.by.finder)) l.by.last x).rule) l.characters l.i l.initial.rules)

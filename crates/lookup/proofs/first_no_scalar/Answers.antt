@@ -1,15 +1,12 @@
-use borrow.Author.Rules.{rules}
-use Rattle.lookup.proofs.Replies.{first_here, first_later, first_none}
+use Rattle.std.proofs.Common.{rules, not, ◌∙◌}
+use Rattle.std.proofs.lemmas.Iterator.{YieldsList-from_slice}
+use Rattle.std.proofs.lemmas.Iterator.Search.{position_from_yields_List}
+use Rattle.std.proofs.lemmas.Iterator.Adapters.{position_from-zero}
+use Rattle.scalars.specs.Characters.{is_scalar}
+use Rattle.lookup.proofs.Replies.{first_place}
 use Rattle.lookup.proofs.first_no_scalar.Goals as goal
 
-pub loop-i-init : goal.loop-i-init
-loop-i-init c = (search rules, search rules)
-
-pub returns-then-not-is_scalar : goal.returns-then-not-is_scalar
-returns-then-not-is_scalar c = search first_here
-
-pub loop-i-preserved : goal.loop-i-preserved
-loop-i-preserved c = (search rules, search first_later)
-
 pub returns : goal.returns
-returns c = search first_none
+returns c =
+    position_from_yields_List (λ x. not (is_scalar x)) _ _ c.position.result c.position.ensures.ran (YieldsList-from_slice _ c.iter.ensures.rest) (λ x b q k. search rules)
+    ∙ (position_from-zero (λ x. not (is_scalar x)) c.args.characters.now ∙ first_place c.args.characters.now 0)

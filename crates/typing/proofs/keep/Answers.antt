@@ -1,4 +1,0 @@
-use Rattle.typing.proofs.keep.Goals as goal
-
-pub returns-in-Nothing : goal.returns-in-Nothing
-returns-in-Nothing c = rw c.in-Nothing.is
