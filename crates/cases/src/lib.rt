@@ -154,7 +154,8 @@ impl Source {
 }
 
 impl Kind {
-    // The kind of a name: a call, behind the words that it goes to where these are listed, or a case that asks no table.
+    // The kind of a name: a call, behind the words that it goes to where these are listed, or a case that asks no
+    // table.
     fn named(word: &[u8]) -> Option<Kind> {
         Some(match word {
             b"compile" => Kind::Compile,

@@ -70,8 +70,8 @@ impl Display for Front<'_> {
     }
 }
 
-// What building answers, and what it leaves. The question says how long the buffer is, and behind a slash the words that
-// are put over its front before.
+// What building answers, and what it leaves. The question says how long the buffer is, and behind a slash the words
+// that are put over its front before.
 pub fn build_answer(words: &[u32], question: &[u8]) -> Text {
     let mut order = Order::unwritten();
     order.put(question);

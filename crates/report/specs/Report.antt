@@ -17,7 +17,8 @@ decimal n = decimal_within 20 n
 
 abbrev pub report_of : Reply ℕ → List ℕ
 report_of (answered count) = ascii "accepted " ++ (decimal count ++ ascii "\n")
-report_of (refused number line) = ascii "refused " ++ (decimal number ++ (ascii " line " ++ (decimal line ++ ascii "\n")))
+report_of (refused number line) =
+    ascii "refused " ++ (decimal number ++ (ascii " line " ++ (decimal line ++ ascii "\n")))
 
 -- what a line holds: 64 bytes, and how many of them are its text
 pub record Held : Type 0 where
