@@ -2,10 +2,13 @@
 // about. Behind the call stands the local character set, ISO 8859-1 where none is named.
 #![tactic(auto)]
 
-use answers::Text;
+ghost use Rattle.std.specs.Prelude.{◌≤◌};
+
+use answers::{Cells, Text};
 use basics::Refusal;
-use lines::{Compiled, TEXT_LIMIT};
-use listing::{LISTING_LIMIT, Listed};
+use fields::Numbers;
+use lines::{Rejection, TEXT_LIMIT};
+use listing::LISTING_LIMIT;
 use replies::UNWRITTEN;
 use scalars::ISO_8859_1;
 use table::{PAIR_WORDS, TABLE_WORDS};
@@ -21,278 +24,354 @@ const BYTES: u32 = 1;
 
 const PRESENT: u32 = 2;
 
+// The refusals in the order of their numbers.
+const REFUSALS: [Refusal; 23] = [
+    Refusal::TextTooLong,
+    Refusal::ShortSlice,
+    Refusal::LineTooLong,
+    Refusal::NotUtf8,
+    Refusal::UnknownDirective,
+    Refusal::MissingOperand,
+    Refusal::BadCharacter,
+    Refusal::BadDots,
+    Refusal::TrailingText,
+    Refusal::TooManyConditions,
+    Refusal::AlreadyDefined,
+    Refusal::AliasLoop,
+    Refusal::TableFull,
+    Refusal::NotScalar,
+    Refusal::NotTable,
+    Refusal::BadState,
+    Refusal::StrayBlockWord,
+    Refusal::UnclosedBlock,
+    Refusal::BeyondPage,
+    Refusal::UnknownEdition,
+    Refusal::UnknownCharset,
+    Refusal::BrailleRow,
+    Refusal::WrongOrder,
+];
+
+// What a question asks of the words of a table: a lookup, what a cell types, a page, a page by windows, its listing, or
+// that read back; its order, or a search, a lookup or a page by it.
+#[derive(Clone, Copy)]
+enum Call {
+    Show,
+    Type,
+    Page,
+    Windows,
+    List,
+    Back,
+    Order,
+    Search,
+    ShowBy,
+    PageBy,
+}
+
+// Which words a question goes to: the table that the text compiles to, or words that the text lists, as many as a table
+// has, one fewer, or two more.
+#[derive(Clone, Copy)]
+enum Source {
+    Compiled,
+    Lent,
+    Short,
+    Beyond,
+}
+
+#[derive(Clone, Copy)]
+enum Kind {
+    Table(Source, Call),
+    Compile,
+    Column,
+    Left,
+    Attributes,
+    AttributesColumn,
+    Dots,
+    Bytes,
+    Row,
+    Edition,
+    Report,
+}
+
+impl Call {
+    fn named(word: &[u8]) -> Option<Call> {
+        Some(match word {
+            b"show" => Call::Show,
+            b"type" => Call::Type,
+            b"page" => Call::Page,
+            b"windows" => Call::Windows,
+            b"list" => Call::List,
+            b"back" => Call::Back,
+            b"order" => Call::Order,
+            b"search" => Call::Search,
+            b"show_by" => Call::ShowBy,
+            b"page_by" => Call::PageBy,
+            _ => return None,
+        })
+    }
+
+    fn answer(self, words: &[u32], question: &[u8]) -> Text {
+        let n = fields::number(question);
+        match self {
+            Call::Show => replies::looked_text(lookup::look_up(words, n)),
+            Call::Type => replies::type_text(words, (n % 256) as u8),
+            Call::Page => page_answer(words, question),
+            Call::Windows => windows_answer(words, question),
+            Call::List => replies::list_text(words, n),
+            Call::Back => back_answer(words, n),
+            Call::Order => order_cases::build_answer(words, question),
+            Call::Search => order_cases::search_answer(words, question),
+            Call::ShowBy => order_cases::look_answer(words, question),
+            Call::PageBy => order_cases::page_answer(words, question),
+        }
+    }
+}
+
+impl Source {
+    // How many words these are.
+    fn length(self) -> usize
+        ensures { result ≤ 2052 }
+    {
+        match self {
+            Source::Compiled | Source::Lent => TABLE_WORDS,
+            Source::Short => TABLE_WORDS - 1,
+            Source::Beyond => WORDS,
+        }
+    }
+
+    // What a call answers of these words.
+    fn answer(self, call: Call, charset: u32, text: &[u8], question: &[u8]) -> Text {
+        let mut words = [0; WORDS];
+        if let Source::Compiled = self {
+            let _ = compile(PRESENT, charset, text, &mut words[..TABLE_WORDS]);
+        } else {
+            words[PAIR_WORDS] = charset;
+            // Those beyond a table hold what no table could.
+            words[TABLE_WORDS..].fill(7);
+            fields::put_numbers(&mut words, text);
+        }
+        call.answer(&words[..self.length()], question)
+    }
+}
+
+impl Kind {
+    // The kind of a name: a call, behind the words that it goes to where these are listed, or a case that asks no
+    // table.
+    fn named(word: &[u8]) -> Option<Kind> {
+        Some(match word {
+            b"compile" => Kind::Compile,
+            b"column" => Kind::Column,
+            b"left" => Kind::Left,
+            b"attributes" => Kind::Attributes,
+            b"attributes_column" => Kind::AttributesColumn,
+            b"dots" => Kind::Dots,
+            b"bytes" => Kind::Bytes,
+            b"row" => Kind::Row,
+            b"edition" => Kind::Edition,
+            b"report" => Kind::Report,
+            _ => {
+                let (front, behind) = fields::split(word, b'_');
+                let source = match front {
+                    b"lent" => Source::Lent,
+                    b"short" => Source::Short,
+                    b"beyond" => Source::Beyond,
+                    _ => return Some(Kind::Table(Source::Compiled, Call::named(word)?)),
+                };
+                match behind {
+                    // A lookup is not named there.
+                    [] => Kind::Table(source, Call::Show),
+                    name => Kind::Table(source, Call::named(name)?),
+                }
+            }
+        })
+    }
+
+    fn answer(self, charset: u32, text: &[u8], question: &[u8]) -> Text {
+        let n = fields::number(question);
+        match self {
+            Kind::Table(source, call) => source.answer(call, charset, text, question),
+            Kind::Compile => replies::compile_text(compiled(PRESENT, charset, text, 0)),
+            Kind::Column => replies::column_text(compiled(PRESENT, charset, text, n)),
+            Kind::Left => left_answer(charset, text, n),
+            Kind::Attributes => replies::compile_text(attributes::compile_attributes(text).answer),
+            Kind::AttributesColumn => {
+                replies::column_text(attributes::compile_attributes(text).answer)
+            }
+            Kind::Dots => dots_answer(text, (n % 256) as u8),
+            Kind::Bytes => replies::column_text(compiled(BYTES, charset, text, 0)),
+            Kind::Row => row_answer(charset, text, n as usize % 16),
+            Kind::Edition => edition_answer(charset, text, question),
+            Kind::Report => report_answer(fields::number(text), n),
+        }
+    }
+}
+
 // What compiling in an edition and a set answers, without the cells.
-fn compile(edition: u32, charset: u32, text: &[u8], words: &mut [u32]) -> Compiled {
-    let done = editions::compile(edition, charset, text, words);
-    done.answer
+fn compile(edition: u32, charset: u32, text: &[u8], words: &mut [u32]) -> Result<usize, Rejection> {
+    editions::compile(edition, charset, text, words).answer
 }
 
 // What compiling into a slice that lacks so many words answers.
-fn compiled(edition: u32, charset: u32, text: &[u8], lacking: u32) -> Compiled {
-    let mut words = [0u32; TABLE_WORDS];
+fn compiled(edition: u32, charset: u32, text: &[u8], lacking: u32) -> Result<usize, Rejection> {
+    let mut words = [0; TABLE_WORDS];
     let n = lacking as usize % (TABLE_WORDS + 1);
     compile(edition, charset, text, &mut words[n..])
 }
 
 fn page_answer(words: &[u32], question: &[u8]) -> Text {
-    let mut numbers = [0u32; 18];
-    let n = fields::put_numbers(&mut numbers, question);
-    if 18 < n {
-        return answers::empty();
-    }
-    replies::page_text(words, &numbers[0..n])
+    let Some(numbers) = Numbers::<18>::read(question) else {
+        return Text::new();
+    };
+    replies::page_text(numbers.as_slice(), |page, cells, rules| {
+        lookup::page(words, page, cells, rules)
+    })
 }
 
 // A page as above, then two numbers a window behind a slash.
 fn windows_answer(words: &[u32], question: &[u8]) -> Text {
-    let mut numbers = [0u32; 18];
-    let n = fields::put_numbers(&mut numbers, fields::first(question, b'/'));
-    let mut pairs = [0u32; 12];
-    let k = fields::put_numbers(&mut pairs, fields::rest(question, b'/'));
-    if 18 < n {
-        return answers::empty();
-    }
-    if 12 < k {
-        return answers::empty();
-    }
-    let windows = fields::windows_of(pairs);
-    replies::windows_text(words, &numbers[0..n], &windows[0..k])
+    let (front, behind) = fields::split(question, b'/');
+    let Some(numbers) = Numbers::<18>::read(front) else {
+        return Text::new();
+    };
+    let Some(pairs) = Numbers::<12>::read(behind) else {
+        return Text::new();
+    };
+    let windows = pairs.all.map(fields::window_number);
+    let windows = &windows[..pairs.count];
+    replies::page_text(numbers.as_slice(), |page, cells, rules| {
+        windows::show_numbers(windows, words, page, cells, rules)
+    })
 }
 
-// What compiling a listing, the first `length` bytes, in the set of the table answers and leaves.
-fn again_answer(words: &[u32], bytes: &[u8], length: usize) -> Text {
+// What compiling a listing in the set of the table answers, and whether it gives the words of the table back, in words
+// that all held 7, and leaves those beyond and the bytes past it.
+fn again_answer(words: &[u32], listing: &[u8], past: &[u8]) -> Text {
     if words.len() < TABLE_WORDS {
-        return answers::empty();
+        return Text::new();
     }
-    if bytes.len() < length {
-        return answers::empty();
-    }
-    let mut back = [7u32; WORDS];
-    let answer = compile(PRESENT, words[PAIR_WORDS], &bytes[0..length], &mut back);
-    let front = replies::counted_text(length, answer);
-    replies::push_read_back(front, words, &back, &bytes[length..])
-}
-
-fn listed_back(words: &[u32], bytes: &mut [u8]) -> Text {
-    let listed = listing::list_table(words, bytes);
-    match listed {
-        Listed::Refused(_, _) => replies::push_unwritten(replies::listed_text(listed), bytes),
-        Listed::Length(length) => again_answer(words, bytes, length),
-    }
+    let mut back = [7; WORDS];
+    let answer = compile(PRESENT, words[PAIR_WORDS], listing, &mut back);
+    let front = replies::counted_text(listing.len(), answer);
+    let (table, beyond) = back.split_at(TABLE_WORDS);
+    let left = if table != &words[..TABLE_WORDS] {
+        "words other"
+    } else if !beyond.iter().all(|word| *word == 7) {
+        "beyond other"
+    } else {
+        replies::past_text(past)
+    };
+    Text::of(format_args!("{front} {left}"))
 }
 
 // Listing into so many bytes, and compiling the listing.
 fn back_answer(words: &[u32], length: u32) -> Text {
     let mut bytes = [UNWRITTEN; LISTING];
-    let n = length as usize % (LISTING + 1);
-    listed_back(words, &mut bytes[0..n])
-}
-
-// A question to a table: a lookup, what a cell types, a page, a page by windows, its listing, or that read back; its
-// order, or a search, a lookup or a page by it.
-fn table_answer(call: usize, words: &[u32], question: &[u8]) -> Text {
-    let n = fields::number(question);
-    match call {
-        0 => replies::look_text(words, n),
-        1 => replies::type_text(words, (n % 256) as u8),
-        2 => page_answer(words, question),
-        3 => windows_answer(words, question),
-        4 => replies::list_text(words, n),
-        5 => back_answer(words, n),
-        6 => order_cases::build_answer(words, question),
-        7 => order_cases::search_answer(words, question),
-        8 => order_cases::look_answer(words, question),
-        _ => order_cases::page_answer(words, question),
+    let bytes = &mut bytes[..length as usize % (LISTING + 1)];
+    let listed = listing::list_table(words, &mut *bytes);
+    match listed {
+        Err(_) => Text::of(format_args!(
+            "{} {}",
+            replies::listed_text(listed),
+            replies::past_text(bytes)
+        )),
+        Ok(length) => match bytes.split_at_checked(length) {
+            Some((listing, past)) => again_answer(words, listing, past),
+            None => Text::new(),
+        },
     }
 }
 
-// A question to the table that the text compiles to.
-fn table_case(charset: u32, call: usize, text: &[u8], question: &[u8]) -> Text {
-    let mut words = [0u32; TABLE_WORDS];
-    compile(PRESENT, charset, text, &mut words);
-    table_answer(call, &words, question)
-}
-
-// A question to so many words, which the text lists, for a set unless the text says otherwise; those beyond a table hold
-// what no table could.
-fn lent_case(charset: u32, length: usize, call: usize, text: &[u8], question: &[u8]) -> Text {
-    let mut words = [0u32; WORDS];
-    words[PAIR_WORDS] = charset;
-    words[TABLE_WORDS] = 7;
-    words[TABLE_WORDS + 1] = 7;
-    fields::put_numbers(&mut words, text);
-    let n = length % (WORDS + 1);
-    table_answer(call, &words[0..n], question)
-}
-
-fn left_answer(charset: u32, text: &[u8], words: &mut [u32]) -> Text {
-    let answer = compile(PRESENT, charset, text, words);
+// What compiling answers and leaves in so many words that all held 7.
+fn left_answer(charset: u32, text: &[u8], length: u32) -> Text {
+    let mut words = [7; WORDS];
+    let words = &mut words[..length as usize % (WORDS + 1)];
+    let answer = compile(PRESENT, charset, text, &mut *words);
     replies::left_text(replies::compile_text(answer), words)
 }
 
-fn left_case(charset: u32, text: &[u8], length: u32) -> Text {
-    let mut words = [7u32; WORDS];
-    let n = length as usize % (WORDS + 1);
-    left_answer(charset, text, &mut words[0..n])
-}
-
-// What compiling in an edition answers, what it leaves in words that all held 7, and whether it hands back cells.
-fn edition_answer(edition: u32, charset: u32, text: &[u8], words: &mut [u32]) -> Text {
-    let done = editions::compile(edition, charset, text, words);
-    let answer = done.answer;
-    let cells = done.cells;
-    let front = replies::left_text(replies::column_text(answer), words);
-    replies::push_filled(front, &cells)
-}
-
-fn edition_case(edition: u32, charset: u32, text: &[u8], length: u32) -> Text {
-    let mut words = [7u32; WORDS];
-    let n = length as usize % (WORDS + 1);
-    edition_answer(edition, charset, text, &mut words[0..n])
-}
-
-// The question has the edition, and how many words are lent.
-fn any_edition_case(charset: u32, text: &[u8], question: &[u8]) -> Text {
-    let mut numbers = [0u32; 2];
+// What compiling in an edition answers, what it leaves in words that all held 7, and whether it hands back cells. The
+// question has the edition, and how many words are lent.
+fn edition_answer(charset: u32, text: &[u8], question: &[u8]) -> Text {
+    let mut numbers = [0; 2];
     fields::put_numbers(&mut numbers, question);
-    edition_case(numbers[0], charset, text, numbers[1])
+    let [edition, length] = numbers;
+    let mut words = [7; WORDS];
+    let words = &mut words[..length as usize % (WORDS + 1)];
+    let done = editions::compile(edition, charset, text, &mut *words);
+    let front = replies::left_text(replies::column_text(done.answer), words);
+    let cells = if done.cells.iter().all(|cell| *cell == 255) {
+        "255"
+    } else {
+        "other"
+    };
+    Text::of(format_args!("{front} cells {cells}"))
 }
 
 // The cells of 16 bytes of a byte table, by their high digit.
-fn row_case(charset: u32, text: &[u8], high: u32) -> Text {
-    let mut words = [0u32; 1];
-    let done = editions::compile(BYTES, charset, text, &mut words);
-    let cells = done.cells;
-    let all: &[u8] = &cells;
-    let first = 16 * (high as usize % 16);
-    let end = first + 16;
-    if all.len() < end {
-        return answers::empty();
-    }
-    answers::push_cells(answers::text_of(b"row"), &all[first..end])
-}
-
-fn compiled_attributes(text: &[u8]) -> Compiled {
-    let table = attributes::compile_attributes(text);
-    table.answer
-}
-
-fn dots_case(text: &[u8], byte: u32) -> Text {
-    let table = attributes::compile_attributes(text);
-    let places = table.places;
-    let cell = attributes::attribute_cell(places, (byte % 256) as u8);
-    answers::push_cell(answers::empty(), cell)
-}
-
-// The refusal of a number; the last one for any other number.
-fn refusal_of(number: u32) -> Refusal {
-    match number {
-        1 => Refusal::TextTooLong,
-        2 => Refusal::ShortSlice,
-        3 => Refusal::LineTooLong,
-        4 => Refusal::NotUtf8,
-        5 => Refusal::UnknownDirective,
-        6 => Refusal::MissingOperand,
-        7 => Refusal::BadCharacter,
-        8 => Refusal::BadDots,
-        9 => Refusal::TrailingText,
-        10 => Refusal::TooManyConditions,
-        11 => Refusal::AlreadyDefined,
-        12 => Refusal::AliasLoop,
-        13 => Refusal::TableFull,
-        14 => Refusal::NotScalar,
-        15 => Refusal::NotTable,
-        16 => Refusal::BadState,
-        17 => Refusal::StrayBlockWord,
-        18 => Refusal::UnclosedBlock,
-        19 => Refusal::BeyondPage,
-        20 => Refusal::UnknownEdition,
-        21 => Refusal::UnknownCharset,
-        22 => Refusal::BrailleRow,
-        _ => Refusal::WrongOrder,
+fn row_answer(charset: u32, text: &[u8], high: usize) -> Text {
+    let done = editions::compile(BYTES, charset, text, &mut [0]);
+    match done.cells.chunks_exact(16).nth(high) {
+        Some(row) => Text::of(format_args!("row{}", Cells(row))),
+        None => Text::new(),
     }
 }
 
-fn report_case(number: u32, line: u32) -> Text {
-    replies::compile_text(Compiled::Refused {
-        refusal: refusal_of(number),
+// The cell of an attribute byte.
+fn dots_answer(text: &[u8], byte: u8) -> Text {
+    let table = attributes::compile_attributes(text);
+    let cell = attributes::attribute_cell(table.places, byte);
+    Text::of(format_args!("{cell:02X}"))
+}
+
+// What the program writes of the refusal of a number; of the last one for any other number.
+fn report_answer(number: u32, line: u32) -> Text {
+    let refusal = REFUSALS
+        .iter()
+        .find(|refusal| u32::from(basics::number_of(**refusal)) == number)
+        .copied()
+        .unwrap_or(Refusal::WrongOrder);
+    replies::compile_text(Err(Rejection {
+        refusal,
         line: line as usize,
         column: 0,
-    })
+    }))
 }
 
-// The set that a case names behind its kind.
-fn charset_in(name: &[u8]) -> u32 {
-    let named = fields::rest(name, b' ');
-    if named.len() == 0 {
-        return ISO_8859_1;
+// A case by its fields.
+#[derive(Clone, Copy)]
+pub struct Case<'a> {
+    call: &'a [u8],
+    text: &'a [u8],
+    question: &'a [u8],
+    pub expected: &'a [u8],
+}
+
+impl<'a> Case<'a> {
+    pub fn of(line: &'a [u8]) -> Case<'a> {
+        let (call, behind) = fields::split(line, b'|');
+        let (text, behind) = fields::split(behind, b'|');
+        let (question, behind) = fields::split(behind, b'|');
+        let (expected, _) = fields::split(behind, b'|');
+        Case {
+            call,
+            text,
+            question,
+            expected,
+        }
     }
-    fields::number(named)
-}
 
-// The kinds that ask a table, in tens, each in the order of `table_answer`: the table that the text compiles to, then
-// lent words; behind these the kinds of `text_case`.
-fn kind_of(word: &[u8]) -> usize {
-    fields::place_of(
-        word,
-        b"show type page windows list back order search show_by page_by \
-        lent lent_type lent_page lent_windows lent_list lent_back \
-        lent_order lent_search lent_show_by lent_page_by \
-        short short_type short_page short_windows short_list short_back \
-        short_order short_search short_show_by short_page_by \
-        beyond beyond_type beyond_page beyond_windows beyond_list beyond_back \
-        beyond_order beyond_search beyond_show_by beyond_page_by \
-        compile column left attributes attributes_column dots bytes row edition report",
-    )
-}
-
-// A case that asks no table.
-fn text_case(kind: usize, charset: u32, text: &[u8], question: &[u8]) -> Text {
-    let n = fields::number(question);
-    match kind {
-        40 => replies::compile_text(compiled(PRESENT, charset, text, 0)),
-        41 => replies::column_text(compiled(PRESENT, charset, text, n)),
-        42 => left_case(charset, text, n),
-        43 => replies::compile_text(compiled_attributes(text)),
-        44 => replies::column_text(compiled_attributes(text)),
-        45 => dots_case(text, n),
-        46 => replies::column_text(compiled(BYTES, charset, text, 0)),
-        47 => row_case(charset, text, n),
-        48 => any_edition_case(charset, text, question),
-        49 => report_case(fields::number(text), n),
-        _ => answers::text_of(b"unknown kind"),
+    // The answer to the case.
+    pub fn answer(&self) -> Text {
+        let (name, set) = fields::split(self.call, b' ');
+        let charset = match set {
+            [] => ISO_8859_1,
+            digits => fields::number(digits),
+        };
+        // One byte more than a text may have.
+        let mut text = [0; TEXT_LIMIT + 1];
+        let n = fields::decode(self.text, &mut text);
+        match Kind::named(name) {
+            Some(kind) => kind.answer(charset, &text[..n], self.question),
+            None => Text::of("unknown kind"),
+        }
     }
-}
-
-// The answer to a case by its fields.
-fn answer_to(name: &[u8], text: &[u8], question: &[u8]) -> Text {
-    let charset = charset_in(name);
-    let kind = kind_of(fields::first(name, b' '));
-    let call = kind % 10;
-    match kind / 10 {
-        0 => table_case(charset, call, text, question),
-        1 => lent_case(charset, TABLE_WORDS, call, text, question),
-        2 => lent_case(charset, TABLE_WORDS - 1, call, text, question),
-        3 => lent_case(charset, WORDS, call, text, question),
-        _ => text_case(kind, charset, text, question),
-    }
-}
-
-// The answer to a case.
-pub fn answer(line: &[u8]) -> Text {
-    let behind = fields::rest(line, b'|');
-    // One byte more than a text may have.
-    let mut text = [0u8; TEXT_LIMIT + 1];
-    let n = fields::decode(fields::first(behind, b'|'), &mut text);
-    answer_to(
-        fields::first(line, b'|'),
-        &text[0..n],
-        fields::first(fields::rest(behind, b'|'), b'|'),
-    )
-}
-
-// The answer that a case expects.
-pub fn expected(line: &[u8]) -> &[u8] {
-    let behind = fields::rest(fields::rest(line, b'|'), b'|');
-    fields::first(fields::rest(behind, b'|'), b'|')
 }

@@ -15,12 +15,12 @@ pub fn read_full<R: Read>(reader: &mut R, buffer: &mut [u8]) -> io::Result<usize
     ensures end { IfOk result (λ n. n < length buffer.new → IsAtEnd (R.remaining reader.new)) }
 {
     let mut at = 0;
+    // A cursor: how far a read goes shows only after it, so no `for` goes over the reads.
     while at < buffer.len() {
-        let n = reader.read(&mut buffer[at..])?;
-        if n == 0 {
-            return Ok(at);
+        match reader.read(&mut buffer[at..])? {
+            0 => return Ok(at),
+            n => at += n,
         }
-        at += n;
     }
     Ok(at)
 }

@@ -2,11 +2,15 @@
 // lent, 1,024 where it does not, and behind a second one the words that are put over its front.
 #![tactic(auto)]
 
-ghost use Rattle.std.specs.Prelude.{◌≤◌, length};
+ghost use Rattle.std.specs.Prelude.{◌≤◌};
 
 use answers::Text;
-use by_order::{Built, Pair, Searched, build_order, look_up_by, page_by};
+use basics::Refused;
+use by_order::{Sought, build_order, look_up_by, page_by};
 use definitions::DEFINITION_LIMIT;
+use fields::Numbers;
+use std::fmt;
+use std::fmt::{Display, Write};
 
 // Eight words more than an order takes.
 const ORDER: usize = DEFINITION_LIMIT + 8;
@@ -14,180 +18,121 @@ const ORDER: usize = DEFINITION_LIMIT + 8;
 // What the words of a buffer hold before it is built in: the number of no pair.
 const UNWRITTEN: u32 = 0xFFFF_FFFF;
 
-// How many words are lent.
-fn lent_length(part: &[u8]) -> usize
-    ensures { result ≤ 1032 }
-{
-    if part.len() == 0 {
-        return DEFINITION_LIMIT;
-    }
-    fields::number(fields::first(part, b'/')) as usize % (ORDER + 1)
+// A buffer of which the first `length` words are lent.
+#[derive(Clone, Copy)]
+struct Order {
+    words: [u32; ORDER],
+    length: usize,
+    ghost within: { length ≤ 1032 },
 }
 
-// Where the unwritten words at the end of a buffer begin.
-fn written_end(order: &[u32]) -> usize
-    ensures { result ≤ length order.now }
-{
-    let mut end = 0;
-    let mut i = 0;
-    while i < order.len() {
-        if order[i] != UNWRITTEN {
-            end = i + 1;
+impl Order {
+    fn unwritten() -> Order {
+        Order {
+            words: [UNWRITTEN; ORDER],
+            length: DEFINITION_LIMIT,
         }
-        i += 1;
     }
-    end
-}
 
-fn push_word(text: Text, word: u32) -> Text {
-    answers::push_decimal(answers::push_byte(text, b' '), word as u64)
+    // The order of a table, with what a question says of it.
+    fn of(words: &[u32], part: &[u8]) -> Order {
+        let mut order = Order::unwritten();
+        let _ = build_order(words, &mut order.words);
+        order.put(part);
+        order
+    }
+
+    // Puts what a question says: how many words are lent, and behind a slash those that are put over the front.
+    fn put(&mut self, part: &[u8]) {
+        if part.is_empty() {
+            return;
+        }
+        let (length, words) = fields::split(part, b'/');
+        self.length = fields::number(length) as usize % (ORDER + 1);
+        fields::put_numbers(&mut self.words, words);
+    }
+
+    fn lent(&self) -> &[u32] {
+        &self.words[..self.length]
+    }
 }
 
 // The first words, 16 at most, each behind a blank.
-fn push_words(text: Text, words: &[u32]) -> Text {
-    let mut all = text;
-    let mut i = 0;
-    while i < words.len() {
-        if i == 16 {
-            return all;
+#[derive(Clone, Copy)]
+struct Front<'a>(&'a [u32]);
+
+impl Display for Front<'_> {
+    fn fmt<W: Write>(&self, f: &mut fmt::Formatter<W>) -> fmt::Result {
+        for word in self.0.iter().take(16) {
+            write!(f, " {word}")?;
         }
-        all = push_word(all, words[i]);
-        i += 1;
-    }
-    all
-}
-
-fn built_text(answer: Built) -> Text {
-    match answer {
-        Built::Refused(refusal, place) => replies::refusal_text(refusal, place),
-        Built::Count(count) => answers::push_decimal(answers::text_of(b"count "), count as u64),
+        Ok(())
     }
 }
 
-// What building answers, and what it leaves.
-fn built_in(words: &[u32], order: &mut [u32]) -> Text {
-    let answer = build_order(words, order);
-    let end = written_end(order);
-    let front = answers::push_bytes(built_text(answer), b" words");
-    let written = push_words(front, &order[0..end]);
-    let stay = order.len() - end;
-    answers::push_decimal(answers::push_bytes(written, b" stay "), stay as u64)
-}
-
-// The build call. The question says how long the buffer is, and behind a slash the words that are put over its front
-// before.
+// What building answers, and what it leaves. The question says how long the buffer is, and behind a slash the words
+// that are put over its front before.
 pub fn build_answer(words: &[u32], question: &[u8]) -> Text {
-    let mut order = [UNWRITTEN; ORDER];
-    fields::put_numbers(&mut order, fields::rest(question, b'/'));
-    let n = lent_length(question);
-    built_in(words, &mut order[0..n])
-}
-
-// Builds the order of a table and puts the words of a question over it; answers how many of its words are lent.
-fn put_order(words: &[u32], question: &[u8], order: &mut [u32]) -> usize
-    ensures { result ≤ 1032 }
-{
-    build_order(words, order);
-    let part = fields::rest(question, b'/');
-    fields::put_numbers(order, fields::rest(part, b'/'));
-    lent_length(part)
-}
-
-fn pair_text(pair: Pair) -> Text {
-    match pair {
-        Pair::Nowhere => answers::text_of(b"none"),
-        Pair::At(k) => answers::push_decimal(answers::empty(), k as u64),
-    }
+    let mut order = Order::unwritten();
+    order.put(question);
+    let length = order.length;
+    let buffer = &mut order.words[..length];
+    let answer = match build_order(words, &mut *buffer) {
+        Ok(count) => Text::of(format_args!("count {count}")),
+        Err(refused) => replies::refused_text(refused),
+    };
+    let end = buffer
+        .iter()
+        .rposition(|word| *word != UNWRITTEN)
+        .map_or(0, |last| last + 1);
+    let front = Front(&buffer[..end]);
+    let stay = length - end;
+    Text::of(format_args!("{answer} words{front} stay {stay}"))
 }
 
 // The pair number or none, and the comparisons.
-fn searched_text(answer: Searched) -> Text {
+fn searched_text(answer: Result<Sought, Refused>) -> Text {
     match answer {
-        Searched::Refused(refusal, place) => replies::refusal_text(refusal, place),
-        Searched::Answered(sought) => {
-            let pair = sought.pair;
-            let front = answers::push_byte(pair_text(pair), b' ');
-            answers::push_decimal(front, sought.comparisons as u64)
+        Ok(sought) => match sought.pair {
+            Some(k) => Text::of(format_args!("{k} {}", sought.comparisons)),
+            None => Text::of(format_args!("none {}", sought.comparisons)),
+        },
+        Err(refused) => replies::refused_text(refused),
+    }
+}
+
+// The search call for each of 12 characters at most, with commas between the answers.
+pub fn search_answer(words: &[u32], question: &[u8]) -> Text {
+    let (front, part) = fields::split(question, b'/');
+    let order = Order::of(words, part);
+    let Some(characters) = Numbers::<12>::read(front) else {
+        return Text::new();
+    };
+    let mut all = Text::new();
+    for (i, c) in characters.as_slice().iter().enumerate() {
+        if i != 0 {
+            all.push_bytes(b", ");
         }
-    }
-}
-
-// One answer more, behind a comma if it is not the first.
-fn push_searched(text: Text, before: usize, answer: Searched) -> Text {
-    if before == 0 {
-        return searched_text(answer);
-    }
-    answers::push_text(answers::push_bytes(text, b", "), searched_text(answer))
-}
-
-// The search call for each character.
-fn searches_text(words: &[u32], order: &[u32], characters: &[u32]) -> Text {
-    let mut all = answers::empty();
-    let mut i = 0;
-    while i < characters.len() {
-        all = push_searched(all, i, by_order::search(words, order, characters[i]));
-        i += 1;
+        all.push_bytes(searched_text(by_order::search(words, order.lent(), *c)).as_bytes());
     }
     all
-}
-
-// Searches for 12 characters at most.
-pub fn search_answer(words: &[u32], question: &[u8]) -> Text {
-    let mut order = [UNWRITTEN; ORDER];
-    let n = put_order(words, question, &mut order);
-    let mut characters = [0u32; 12];
-    let k = fields::put_numbers(&mut characters, fields::first(question, b'/'));
-    if 12 < k {
-        return answers::empty();
-    }
-    searches_text(words, &order[0..n], &characters[0..k])
 }
 
 // The lookup call by an order.
 pub fn look_answer(words: &[u32], question: &[u8]) -> Text {
-    let mut order = [UNWRITTEN; ORDER];
-    let n = put_order(words, question, &mut order);
-    let c = fields::number(fields::first(question, b'/'));
-    replies::looked_text(look_up_by(words, &order[0..n], c))
-}
-
-fn whole_text(
-    words: &[u32],
-    order: &[u32],
-    page: &[u32],
-    cells: &mut [u8],
-    rules: &mut [u8],
-) -> Text {
-    let answer = page_by(words, order, page, cells, rules);
-    replies::buffers_text(answer, cells, rules)
-}
-
-// The page call by numbers, as in `replies`.
-fn page_text(words: &[u32], order: &[u32], numbers: &[u32]) -> Text {
-    if numbers.len() < 2 {
-        return answers::empty();
-    }
-    let mut cells = [0xEEu8; 16];
-    let mut rules = [0xEEu8; 16];
-    let width = (numbers[0] % 17) as usize;
-    let height = (numbers[1] % 17) as usize;
-    whole_text(
-        words,
-        order,
-        &numbers[2..],
-        &mut cells[0..width],
-        &mut rules[0..height],
-    )
+    let (front, part) = fields::split(question, b'/');
+    let order = Order::of(words, part);
+    replies::looked_text(look_up_by(words, order.lent(), fields::number(front)))
 }
 
 // The page call by an order.
 pub fn page_answer(words: &[u32], question: &[u8]) -> Text {
-    let mut order = [UNWRITTEN; ORDER];
-    let n = put_order(words, question, &mut order);
-    let mut numbers = [0u32; 18];
-    let k = fields::put_numbers(&mut numbers, fields::first(question, b'/'));
-    if 18 < k {
-        return answers::empty();
-    }
-    page_text(words, &order[0..n], &numbers[0..k])
+    let (front, part) = fields::split(question, b'/');
+    let order = Order::of(words, part);
+    let Some(numbers) = Numbers::<18>::read(front) else {
+        return Text::new();
+    };
+    replies::page_text(numbers.as_slice(), |page, cells, rules| {
+        page_by(words, order.lent(), page, cells, rules)
+    })
 }

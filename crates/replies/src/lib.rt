@@ -1,299 +1,146 @@
 // What the calls answer, as texts.
 #![tactic(auto)]
 
-use answers::Text;
-use basics::{Filling, Maybe, Refusal};
-use lines::Compiled;
-use listing::Listed;
-use lookup::Looked;
-use table::{PAIR_WORDS, TABLE_WORDS};
+use answers::{Cells, Text};
+use basics::Refused;
+use lines::Rejection;
+use rules::Answer;
+use table::PAIR_WORDS;
 
 // What a buffer for a listing holds before the call: a byte that no listing has.
 pub const UNWRITTEN: u8 = b'.';
 
 // What the program writes of an answer of a compile call, without its LF.
-pub fn compile_text(answer: Compiled) -> Text {
+pub fn compile_text(answer: Result<usize, Rejection>) -> Text {
     let line = report::report(answer);
-    let bytes = line.bytes;
-    let all: &[u8] = &bytes;
-    let end = lines::line_end(all, 0);
-    answers::text_of(&all[0..end])
+    let bytes = line.as_bytes();
+    let mut text = Text::new();
+    text.push_bytes(&bytes[..lines::line_end(bytes, 0)]);
+    text
 }
 
 // The same, and the column, 0 where there is none.
-pub fn column_text(answer: Compiled) -> Text {
-    let front = answers::push_bytes(compile_text(answer), b" column ");
-    match answer {
-        Compiled::Accepted(_) => answers::push_decimal(front, 0),
-        Compiled::Refused {
-            refusal: _,
-            line: _,
-            column,
-        } => answers::push_decimal(front, column as u64),
-    }
+pub fn column_text(answer: Result<usize, Rejection>) -> Text {
+    let column = answer.err().map_or(0, |rejection| rejection.column);
+    Text::of(format_args!("{} column {column}", compile_text(answer)))
 }
 
 // A refusal with its place.
-pub fn refusal_text(refusal: Refusal, place: usize) -> Text {
-    let number = basics::number_of(refusal) as u64;
-    let front = answers::push_decimal(answers::text_of(b"refused "), number);
-    answers::push_decimal(answers::push_bytes(front, b" place "), place as u64)
+pub fn refused_text(refused: Refused) -> Text {
+    let number = basics::number_of(refused.refusal);
+    Text::of(format_args!("refused {number} place {}", refused.place))
 }
 
 // What a lookup call answers: cell, rule and links.
-pub fn looked_text(answer: Looked) -> Text {
+pub fn looked_text(answer: Result<Answer, Refused>) -> Text {
     match answer {
-        Looked::Refused(refusal, place) => refusal_text(refusal, place),
-        Looked::Answered(a) => {
-            let cell = answers::push_cell(answers::empty(), a.cell);
-            let rule = answers::push_decimal(answers::push_byte(cell, b' '), a.rule as u64);
-            answers::push_decimal(answers::push_byte(rule, b' '), a.links as u64)
-        }
-    }
-}
-
-pub fn look_text(words: &[u32], c: u32) -> Text {
-    looked_text(lookup::look_up(words, c))
-}
-
-// What a call that fills answers: a refusal, or `text`.
-fn filling_text(answer: Filling, text: Text) -> Text {
-    match answer {
-        Filling::Refused(refusal, place) => refusal_text(refusal, place),
-        Filling::Filled => text,
-    }
-}
-
-fn entry_text(types: Maybe) -> Text {
-    match types {
-        Maybe::Nothing => answers::text_of(b"nothing"),
-        Maybe::Character(c) => answers::push_character(answers::empty(), c),
+        Ok(a) => Text::of(format_args!("{:02X} {} {}", a.cell, a.rule, a.links)),
+        Err(refused) => refused_text(refused),
     }
 }
 
 // What a cell types.
 pub fn type_text(words: &[u32], cell: u8) -> Text {
-    let all = typing::typed_entries(words);
-    let answer = all.answer;
-    let entries = all.entries;
-    let e = entries[cell as usize];
-    let types = e.types;
-    filling_text(answer, entry_text(types))
+    let types = typing::typed_entries(words);
+    match types.answer {
+        Ok(()) => match types.entries[cell as usize] {
+            Some(c) => Text::of(format_args!("{c:X}")),
+            None => Text::of("nothing"),
+        },
+        Err(refused) => refused_text(refused),
+    }
 }
 
 // What a page call answers, and what it leaves in both buffers.
-pub fn buffers_text(answer: Filling, cells: &[u8], rules: &[u8]) -> Text {
-    let front = answers::push_cells(filling_text(answer, answers::text_of(b"filled")), cells);
-    answers::push_cells(answers::push_bytes(front, b" /"), rules)
+fn buffers_text(answer: Result<(), Refused>, cells: &[u8], rules: &[u8]) -> Text {
+    let front = match answer {
+        Ok(()) => Text::of("filled"),
+        Err(refused) => refused_text(refused),
+    };
+    Text::of(format_args!("{front}{} /{}", Cells(cells), Cells(rules)))
 }
 
-fn whole_text(words: &[u32], page: &[u32], cells: &mut [u8], rules: &mut [u8]) -> Text {
-    let answer = lookup::page(words, page, cells, rules);
+// A page call by numbers: the lengths of both buffers, 16 at most, then the characters.
+pub fn page_text<F: FnOnce(&[u32], &mut [u8], &mut [u8]) -> Result<(), Refused>>(
+    numbers: &[u32],
+    page: F,
+) -> Text
+    requires { F.IsAlwaysCallable page }
+{
+    let [width, height, characters @ ..] = numbers else {
+        return Text::new();
+    };
+    let mut cells = [0xEE; 16];
+    let mut rules = [0xEE; 16];
+    let cells = &mut cells[..*width as usize % 17];
+    let rules = &mut rules[..*height as usize % 17];
+    let answer = page(characters, &mut *cells, &mut *rules);
     buffers_text(answer, cells, rules)
-}
-
-fn parts_text(
-    windows: &[usize],
-    words: &[u32],
-    page: &[u32],
-    cells: &mut [u8],
-    rules: &mut [u8],
-) -> Text {
-    let answer = windows::show_numbers(windows, words, page, cells, rules);
-    buffers_text(answer, cells, rules)
-}
-
-// The page call by numbers: the lengths of both buffers, 16 at most, then the characters.
-pub fn page_text(words: &[u32], numbers: &[u32]) -> Text {
-    if numbers.len() < 2 {
-        return answers::empty();
-    }
-    let mut cells = [0xEEu8; 16];
-    let mut rules = [0xEEu8; 16];
-    let width = (numbers[0] % 17) as usize;
-    let height = (numbers[1] % 17) as usize;
-    whole_text(
-        words,
-        &numbers[2..],
-        &mut cells[0..width],
-        &mut rules[0..height],
-    )
-}
-
-// The page call for many windows, two numbers each, by the same numbers.
-pub fn windows_text(words: &[u32], numbers: &[u32], windows: &[usize]) -> Text {
-    if numbers.len() < 2 {
-        return answers::empty();
-    }
-    let mut cells = [0xEEu8; 16];
-    let mut rules = [0xEEu8; 16];
-    let width = (numbers[0] % 17) as usize;
-    let height = (numbers[1] % 17) as usize;
-    parts_text(
-        windows,
-        words,
-        &numbers[2..],
-        &mut cells[0..width],
-        &mut rules[0..height],
-    )
-}
-
-// Whether all words have one value.
-fn all_are(words: &[u32], value: u32) -> bool {
-    let mut i = 0;
-    while i < words.len() {
-        if words[i] != value {
-            return false;
-        }
-        i += 1;
-    }
-    true
 }
 
 // What words came to that all held 7.
-fn push_change(text: Text, words: &[u32]) -> Text {
-    if all_are(words, 7) {
-        return answers::push_bytes(text, b" same");
+fn change(words: &[u32]) -> &'static str {
+    if words.iter().all(|word| *word == 7) {
+        "same"
+    } else if words.iter().all(|word| *word == 0) {
+        "zero"
+    } else {
+        "other"
     }
-    if all_are(words, 0) {
-        return answers::push_bytes(text, b" zero");
-    }
-    answers::push_bytes(text, b" other")
-}
-
-// The two words behind the pairs of a table.
-fn push_end(text: Text, charset: u32, last: u32) -> Text {
-    let set = answers::push_decimal(answers::push_bytes(text, b" set "), charset as u64);
-    answers::push_decimal(answers::push_byte(set, b' '), last as u64)
 }
 
 // What compiling answers, as a text, and what it leaves in words that all held 7: the pairs of a table, the two words
 // behind them, and those beyond.
 pub fn left_text(answer: Text, words: &[u32]) -> Text {
-    let front = answers::push_bytes(answer, b" words");
-    if words.len() < TABLE_WORDS {
-        return answers::push_bytes(push_change(front, words), b" beyond same");
+    match words.split_at_checked(PAIR_WORDS) {
+        Some((pairs, [charset, last, beyond @ ..])) => Text::of(format_args!(
+            "{answer} words {} set {charset} {last} beyond {}",
+            change(pairs),
+            change(beyond)
+        )),
+        _ => Text::of(format_args!("{answer} words {} beyond same", change(words))),
     }
-    let pairs = push_change(front, &words[0..PAIR_WORDS]);
-    let end = push_end(pairs, words[PAIR_WORDS], words[PAIR_WORDS + 1]);
-    push_change(answers::push_bytes(end, b" beyond"), &words[TABLE_WORDS..])
-}
-
-// Whether all bytes have one value.
-fn all_bytes_are(bytes: &[u8], value: u8) -> bool {
-    let mut i = 0;
-    while i < bytes.len() {
-        if bytes[i] != value {
-            return false;
-        }
-        i += 1;
-    }
-    true
-}
-
-// Whether cells are all 255.
-pub fn push_filled(text: Text, cells: &[u8]) -> Text {
-    if all_bytes_are(cells, 255) {
-        return answers::push_bytes(text, b" cells 255");
-    }
-    answers::push_bytes(text, b" cells other")
 }
 
 // What a listing call answers.
-pub fn listed_text(answer: Listed) -> Text {
+pub fn listed_text(answer: Result<usize, Refused>) -> Text {
     match answer {
-        Listed::Refused(refusal, place) => refusal_text(refusal, place),
-        Listed::Length(length) => {
-            answers::push_decimal(answers::text_of(b"length "), length as u64)
-        }
+        Ok(length) => Text::of(format_args!("length {length}")),
+        Err(refused) => refused_text(refused),
     }
 }
 
 // The length of a listing, and how many definitions compiling it answers; only the refusal where that refuses.
-pub fn counted_text(length: usize, answer: Compiled) -> Text {
+pub fn counted_text(length: usize, answer: Result<usize, Rejection>) -> Text {
     match answer {
-        Compiled::Accepted(count) => {
-            let front = answers::push_bytes(listed_text(Listed::Length(length)), b" count ");
-            answers::push_decimal(front, count as u64)
-        }
-        Compiled::Refused {
-            refusal: _,
-            line: _,
-            column: _,
-        } => compile_text(answer),
+        Ok(count) => Text::of(format_args!("length {length} count {count}")),
+        Err(_) => compile_text(answer),
     }
 }
 
-// A byte of a text, LF as the cases write it.
-fn push_text_byte(text: Text, b: u8) -> Text {
-    if b == b'\n' {
-        return answers::push_bytes(text, b"%0A");
-    }
-    answers::push_byte(text, b)
-}
-
-// The bytes of a text, behind a blank if there are any.
-fn push_lines(text: Text, bytes: &[u8]) -> Text {
-    if bytes.len() == 0 {
-        return text;
-    }
-    let mut all = answers::push_byte(text, b' ');
-    let mut i = 0;
-    while i < bytes.len() {
-        all = push_text_byte(all, bytes[i]);
-        i += 1;
-    }
-    all
-}
-
-fn buffer_text(words: &[u32], buffer: &mut [u8]) -> Text {
-    let answer = listing::list_table(words, buffer);
-    push_lines(listed_text(answer), buffer)
-}
-
-// What the listing call answers, and what it leaves in a buffer of so many bytes, 200 at most.
+// What the listing call answers, and what it leaves in a buffer of so many bytes, 200 at most, with LF as the cases
+// write it.
 pub fn list_text(words: &[u32], length: u32) -> Text {
     let mut buffer = [UNWRITTEN; 200];
-    let n = (length % 201) as usize;
-    buffer_text(words, &mut buffer[0..n])
+    let buffer = &mut buffer[..length as usize % 201];
+    let mut text = listed_text(listing::list_table(words, &mut *buffer));
+    if !buffer.is_empty() {
+        text.push(b' ');
+    }
+    for byte in buffer.iter() {
+        match *byte {
+            b'\n' => text.push_bytes(b"%0A"),
+            b => text.push(b),
+        }
+    }
+    text
 }
 
 // Whether a buffer, or the part of it past a listing, is as it was.
-pub fn push_unwritten(text: Text, bytes: &[u8]) -> Text {
-    if all_bytes_are(bytes, UNWRITTEN) {
-        return answers::push_bytes(text, b" same");
+pub fn past_text(bytes: &[u8]) -> &'static str {
+    if bytes.iter().all(|b| *b == UNWRITTEN) {
+        "same"
+    } else {
+        "bytes other"
     }
-    answers::push_bytes(text, b" bytes other")
-}
-
-fn same_words(left: &[u32], right: &[u32]) -> bool {
-    if left.len() != right.len() {
-        return false;
-    }
-    let mut i = 0;
-    while i < left.len() {
-        if left[i] != right[i] {
-            return false;
-        }
-        i += 1;
-    }
-    true
-}
-
-// Whether a listing gives the words of the table back, in words that all held 7, and leaves those beyond and the bytes
-// past it.
-pub fn push_read_back(text: Text, words: &[u32], back: &[u32], past: &[u8]) -> Text {
-    if words.len() < TABLE_WORDS {
-        return text;
-    }
-    if back.len() < TABLE_WORDS {
-        return text;
-    }
-    if !same_words(&words[0..TABLE_WORDS], &back[0..TABLE_WORDS]) {
-        return answers::push_bytes(text, b" words other");
-    }
-    if !all_are(&back[TABLE_WORDS..], 7) {
-        return answers::push_bytes(text, b" beyond other");
-    }
-    push_unwritten(text, past)
 }

@@ -3,7 +3,6 @@ use Rattle.std.specs.Prelude.{ℕ, zero, suc, ◌+◌, ◌-◌, ◌/◌, ◌%◌
 use Rattle.basics.specs.Ascii.{ascii}
 use Rattle.basics.specs.Choice.{pick}
 use Rattle.basics.specs.Refusals.{Reply, answered, refused}
-use Rattle.report.specs.declared.Line.{Line}
 
 -- a number in decimal, of at most so many digits
 unfoldable pub decimal_within : ℕ → ℕ → List ℕ
@@ -18,8 +17,14 @@ decimal n = decimal_within 20 n
 
 abbrev pub report_of : Reply ℕ → List ℕ
 report_of (answered count) = ascii "accepted " ++ (decimal count ++ ascii "\n")
-report_of (refused number line) = ascii "refused " ++ (decimal number ++ (ascii " line " ++ (decimal line ++ ascii "\n")))
+report_of (refused number line) =
+    ascii "refused " ++ (decimal number ++ (ascii " line " ++ (decimal line ++ ascii "\n")))
+
+-- what a line holds: 64 bytes, and how many of them are its text
+pub record Held : Type 0 where
+  pub bytes : List ℕ
+  pub length : ℕ
 
 -- a line of 64 bytes: a text in front, zeros behind it
-abbrev pub line_of : List ℕ → Line
+abbrev pub line_of : List ℕ → Held
 line_of text = record { bytes = text ++ replicate (64 - length text) 0; length = length text }

@@ -1,9 +1,0 @@
-use Rattle.std.proofs.Common.{◌-◌, ◌≤◌}
-use Rattle.vectors_attributes.proofs.write_table.Given as goal
-
--- the byte is one of 256
-abbrev pub invariant-loop-byte : goal.invariant-loop-byte
-invariant-loop-byte g l = l.byte ≤ 255
-
-abbrev pub decreases-loop-byte : goal.decreases-loop-byte
-decreases-loop-byte g l = 255 - l.byte
