@@ -1,6 +1,7 @@
--- The character operand and the byte operand: a whole word to a character, and to a byte of a local character set. Number 0x110000
--- stands for none, and is no scalar value.
-use Rattle.std.specs.Prelude.{ℕ, ◌+◌, ◌-◌, ◌*◌, ◌%◌, Bool, ◌&&◌, ◌||◌, List, [], ◌∷◌, Option, None, Some, length, get_or, drop, ltb, leb, eqb}
+-- The character operand and the byte operand: a whole word to a character, and to a byte of a local character set.
+-- Number 0x110000 stands for none, and is no scalar value.
+use Rattle.std.specs.Prelude.{ℕ, ◌+◌, ◌-◌, ◌*◌, ◌%◌, Bool, ◌&&◌, ◌||◌, ltb, leb, eqb}
+use Rattle.std.specs.Prelude.{List, [], ◌∷◌, length, get_or, drop, Option, None, Some}
 use Rattle.basics.specs.Choice.{pick, if_some}
 use Rattle.scalars.specs.Characters.{is_scalar, as_byte, local_character, local_byte, local_of}
 use Rattle.characters.specs.declared.OperandKind.{OperandKind}
@@ -36,7 +37,8 @@ unfoldable pub plain_of : List ℕ → ℕ
 plain_of w =
     pick (eqb (length w) 1) (get_or w 0 0)
     (pick (eqb (length w) 2 && leb 0xC0 (get_or w 0 0)) (get_or w 0 0 % 32 * 64 + get_or w 1 0 % 64)
-    (pick (eqb (length w) 3 && leb 0xE0 (get_or w 0 0)) (get_or w 0 0 % 16 * 4096 + get_or w 1 0 % 64 * 64 + get_or w 2 0 % 64)
+    (pick (eqb (length w) 3 && leb 0xE0 (get_or w 0 0))
+    (get_or w 0 0 % 16 * 4096 + get_or w 1 0 % 64 * 64 + get_or w 2 0 % 64)
     (pick (eqb (length w) 4 && leb 0xF0 (get_or w 0 0))
     (get_or w 0 0 % 8 * 262144 + get_or w 1 0 % 64 * 4096 + get_or w 2 0 % 64 * 64 + get_or w 3 0 % 64)
     no_number)))
@@ -56,7 +58,8 @@ short_of b =
     no_number))))))))
 
 -- \o with three octal digits, \x or \X with two hex digits, \u with four, \U with eight:
--- the base, by the byte after the backslash and the length of the whole word; 0, in which nothing is a digit, for any other
+-- the base, by the byte after the backslash and the length of the whole word; 0, in which nothing is a digit, for
+-- any other
 unfoldable pub radix_of : ℕ → ℕ → ℕ
 radix_of b n =
     pick (eqb b 111 && eqb n 5) 8
@@ -88,7 +91,8 @@ is_escape w = eqb (get_or w 0 0) backslash
 abbrev pub is_unicode_escape : List ℕ → Bool
 is_unicode_escape w = is_escape w && (eqb (get_or w 1 0) 117 || eqb (get_or w 1 0) 85)
 
--- the byte of a whole word: an escape is that byte in every set, a character written as itself the byte that the set has for it
+-- the byte of a whole word: an escape is that byte in every set, a character written as itself the byte that the set
+-- has for it
 unfoldable pub byte_of : ℕ → List ℕ → Option ℕ
 byte_of charset w = if_some (character_of w) None (λ n. pick (is_escape w) (as_byte n) (local_byte charset n))
 

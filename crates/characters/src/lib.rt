@@ -2,7 +2,9 @@
 #![tactic(auto)]
 
 ghost use Rattle.std.specs.Prelude.{◌≡◌, ◌+◌, ◌*◌, ◌%◌, ◌≤◌, ◌<◌, IfSome, unwrap_or};
-ghost use Rattle.characters.specs.Characters.{no_number, digit_of, with_digit, digits_from, plain_of, short_of, radix_of, word_number, character_of, operand_of, is_unicode_escape, is_escape, byte_of, byte_character_of, word_value};
+ghost use Rattle.characters.specs.Characters.{no_number, digit_of, with_digit, digits_from, plain_of, short_of};
+ghost use Rattle.characters.specs.Characters.{radix_of, word_number, character_of, operand_of, is_unicode_escape};
+ghost use Rattle.characters.specs.Characters.{is_escape, byte_of, byte_character_of, word_value};
 
 // What an operand is read as: a character, or a byte of the local set.
 #[derive(Clone, Copy)]
@@ -11,7 +13,7 @@ pub enum OperandKind {
     Byte,
 }
 
-// The last number of a character.
+// The last number of a character. In the definitions one more stands for no number.
 const LAST_NUMBER: u32 = 0x10FFFF;
 
 // `n` with the digit that `b` is behind it.

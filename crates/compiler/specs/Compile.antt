@@ -1,36 +1,35 @@
 -- Compiling: what a line does to the definitions and the open blocks so far, and what the compile call answers and writes.
-use Rattle.std.specs.Prelude.{ℕ, ◌+◌, not, ◌||◌, List, [], ◌∷◌, ◌++◌, length, drop, replicate, ltb}
-use Rattle.basics.specs.Choice.{pick}
+use Rattle.std.specs.Prelude.{ℕ, ◌+◌, not, ◌||◌, List, [], ◌∷◌, ◌++◌, length, drop, replicate, ltb, Result, Ok, Err}
+use Rattle.basics.specs.Choice.{pick, if_ok}
 use Rattle.basics.specs.Refusals.{Reply, refused}
+use Rattle.basics.specs.declared.Refusal.{Refusal}
 use Rattle.basics.specs.declared.Refusal.TheVariants.{UnclosedBlock}
 use Rattle.scalars.specs.Characters.{is_charset}
+use Rattle.lines.specs.declared.LineFault.{LineFault}
 use Rattle.lines.specs.Lines.{without_cr}
 use Rattle.lines.specs.Texts.{text_limit, Step, next, stop, Outcome, accepted, rejected, run_text, outcome_reply, outcome_column}
 use Rattle.blocks.specs.Blocks.{around_of, blocks_after, starts_after}
 use Rattle.blocks.specs.declared.OpenBlock.{OpenBlock}
 use Rattle.definitions.specs.declared.Definition.{Definition}
-use Rattle.definitions.specs.declared.Verdict.{Verdict}
-use Rattle.definitions.specs.declared.Verdict.TheVariants as Judged
 use Rattle.definitions.specs.Effects.{verdict_of}
 use Rattle.pairs.specs.Words.{table_words, image_of}
 use Rattle.reader.specs.Reader.{read_line}
 use Rattle.reader.specs.declared.Reading.{Reading}
-use Rattle.reader.specs.declared.Reading.TheVariants.{Fault, NoEffect, Define, Block}
+use Rattle.reader.specs.declared.Reading.TheVariants.{NoEffect, Define, Block}
 
 -- 22, 11, 12, 13, which only a definition that takes effect can give
-abbrev pub judged : Verdict → Definition → ℕ → Reading
-judged Judged.Admitted d left = Define d left
-judged (Judged.Refused refusal) d left = Fault refusal left
+abbrev pub judged : Result (Unit {0}) Refusal → Definition → ℕ → Result Reading LineFault
+judged (Ok u) d left = Ok (Define d left)
+judged (Err refusal) d left = Err (record { refusal = refusal; left = left })
 
-abbrev pub effect_of : List Definition → Reading → Reading
-effect_of ds (Fault refusal left) = Fault refusal left
-effect_of ds NoEffect = NoEffect
+abbrev pub effect_of : List Definition → Reading → Result Reading LineFault
+effect_of ds NoEffect = Ok NoEffect
 effect_of ds (Define d left) = judged (verdict_of ds d) d left
-effect_of ds (Block line) = Block line
+effect_of ds (Block line) = Ok (Block line)
 
 -- what a line does inside these open blocks, in a local character set: its first fault, nothing, the definition that takes effect, or what it does to the blocks
-unfoldable pub line_effect : ℕ → List Definition → List OpenBlock → List ℕ → Reading
-line_effect charset ds bs line = effect_of ds (read_line charset ds (around_of bs) line)
+unfoldable pub line_effect : ℕ → List Definition → List OpenBlock → List ℕ → Result Reading LineFault
+line_effect charset ds bs line = if_ok (read_line charset ds (around_of bs) line) (λ reading. effect_of ds reading)
 
 -- what the lines so far leave: their definitions, the open blocks, the lines that opened these, and how many lines there were
 pub record SoFar : Type 0 where
@@ -47,11 +46,11 @@ abbrev pub begun : SoFar
 begun = so_far [] [] [] 0
 
 -- one line more, with what takes effect at it
-abbrev pub with_effect : SoFar → Reading → Step SoFar
-with_effect s (Fault refusal left) = stop refusal left
-with_effect s NoEffect = next (so_far s.definitions s.blocks s.starts (s.lines + 1))
-with_effect s (Define d left) = next (so_far (s.definitions ++ d ∷ []) s.blocks s.starts (s.lines + 1))
-with_effect s (Block line) =
+abbrev pub with_effect : SoFar → Result Reading LineFault → Step SoFar
+with_effect s (Err fault) = stop fault.refusal fault.left
+with_effect s (Ok NoEffect) = next (so_far s.definitions s.blocks s.starts (s.lines + 1))
+with_effect s (Ok (Define d left)) = next (so_far (s.definitions ++ d ∷ []) s.blocks s.starts (s.lines + 1))
+with_effect s (Ok (Block line)) =
     next (so_far s.definitions (blocks_after line s.blocks) (starts_after line (s.lines + 1) s.starts) (s.lines + 1))
 
 unfoldable pub step : ℕ → SoFar → List ℕ → Step SoFar
@@ -71,11 +70,11 @@ unfoldable pub compiled : ℕ → List ℕ → Outcome (List Definition)
 compiled charset text = closing (run_text (step charset) begun text)
 
 -- the definitions that take effect at some lines, after the definitions and inside the open blocks of the lines before
-abbrev pub and_after : List Definition → List OpenBlock → Reading → (List Definition → List OpenBlock → List Definition) → List Definition
-and_after ds bs (Fault refusal left) more = []
-and_after ds bs NoEffect more = more ds bs
-and_after ds bs (Define d left) more = d ∷ more (ds ++ d ∷ []) bs
-and_after ds bs (Block line) more = more ds (blocks_after line bs)
+abbrev pub and_after : List Definition → List OpenBlock → Result Reading LineFault → (List Definition → List OpenBlock → List Definition) → List Definition
+and_after ds bs (Err fault) more = []
+and_after ds bs (Ok NoEffect) more = more ds bs
+and_after ds bs (Ok (Define d left)) more = d ∷ more (ds ++ d ∷ []) bs
+and_after ds bs (Ok (Block line)) more = more ds (blocks_after line bs)
 
 unfoldable pub effects_within : ℕ → List Definition → List OpenBlock → List (List ℕ) → List Definition
 effects_within charset ds bs [] = []

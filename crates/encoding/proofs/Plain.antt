@@ -8,8 +8,7 @@ use native.Mathlib.Omega.{arith}
 use lib.Dec.{eqb, leb}
 use lib.ListN.{length, get_or, length-append}
 use borrow.Author.Tests.{eqb-true, ne_eqb, le-leb, lt-leb}
-use Rattle.basics.specs.declared.Maybe.{Maybe}
-use Rattle.basics.specs.declared.Maybe.TheVariants.{Nothing, Character}
+use Rattle.std.specs.Prelude.{Option, None, Some}
 use Rattle.basics.proofs.Tests.{by_cases, by_test}
 use Rattle.scalars.specs.Characters.{is_scalar}
 use Rattle.characters.specs.Characters.{no_number, backslash, plain_of, word_number, character_of}
@@ -71,11 +70,11 @@ plain_says w u h =
     (λ e. rw u.forms (number_form u.scalars (rw u.forms at e)))
     (λ e c f. absurd (let z : ◌≡◌ {A = ℕ} 0 1 = cc (f.scalar, plain_form (form_of f)) in omega arith)))
 
-plain_once : (w : List ℕ) (m n : Maybe) → SaysPlain m w → SaysPlain n w → m ≡ n
-plain_once w (Character c) (Character d) h k = ap Character (sym (plain_form (form_of h)) ∙ plain_form (form_of k))
-plain_once w (Character c) Nothing h k = absurd (k c h)
-plain_once w Nothing (Character d) h k = absurd (h d k)
-plain_once w Nothing Nothing h k = refl
+plain_once : (w : List ℕ) (m n : Option ℕ) → SaysPlain m w → SaysPlain n w → m ≡ n
+plain_once w (Some c) (Some d) h k = ap Some (sym (plain_form (form_of h)) ∙ plain_form (form_of k))
+plain_once w (Some c) None h k = absurd (k c h)
+plain_once w None (Some d) h k = absurd (h d k)
+plain_once w None None h k = refl
 
 pub plain_exactly : (w : List ℕ) → IsUtf8 w → Plain w → Exactly character_of SaysPlain w
 plain_exactly w u h = exactly character_of SaysPlain w (plain_says w u h) (plain_once w)

@@ -10,8 +10,16 @@ use borrow.Author.Tests.{lt-ltb, le-ltb, le-leb, lt-leb, ne_eqb}
 use Rattle.utf8.specs.Utf8.{after_first, after_further, utf8_from}
 use Rattle.utf8.specs.declared.Utf8State.{Utf8State}
 use Rattle.utf8.specs.declared.Utf8State.TheVariants.{Between, Inside, Broken}
-use Rattle.utf8.specs.declared.Validity.TheVariants.{BadAt}
+use Rattle.utf8.specs.declared.BadSequence.{BadSequence}
+use Rattle.std.specs.Prelude.{Result, Ok, Err}
 use Rattle.encoding.proofs.Forms.{by_bound, if_below, if_same, SecondOfThree, SecondOfFour, Form, one, two, three, four}
+
+-- what is answered of a line: it is good, or where it breaks
+abbrev pub good : Result Unit BadSequence
+good = Ok tt
+
+abbrev pub bad_at : ℕ → Result Unit BadSequence
+bad_at p = Err (record { start = p })
 
 -- ---- the first byte
 
@@ -75,7 +83,7 @@ first_byte b i bs e = ap (λ p. utf8_from bs (i + 1) p) e
 
 -- ---- further bytes
 
-pub stays_broken : (bs : List ℕ) (j start : ℕ) → utf8_from bs j (Broken start) ≡ BadAt start
+pub stays_broken : (bs : List ℕ) (j start : ℕ) → utf8_from bs j (Broken start) ≡ bad_at start
 unfolding utf8_from
 stays_broken [] j start = refl
 stays_broken (b ∷ bs) j start = stays_broken bs (j + 1) start
@@ -91,7 +99,7 @@ module _ (low high start y : ℕ) (bs : List ℕ) (j : ℕ) where
       let e : suc (suc left) - 1 ≡ suc left = omega arith in
       rw (le-leb low y, le-leb y high, lt-leb (suc (suc left)) 1 (omega arith), e)
 
-  pub further_bad : (left : ℕ) → (leb low y && leb y high) ≡ false → utf8_from (y ∷ bs) j (Inside left low high start) ≡ BadAt start
+  pub further_bad : (left : ℕ) → (leb low y && leb y high) ≡ false → utf8_from (y ∷ bs) j (Inside left low high start) ≡ bad_at start
   unfolding utf8_from after_further
   further_bad left e = rw (utf8_from, e) (stays_broken bs (j + 1) start)
 
@@ -110,7 +118,7 @@ furthers_read (more {left} {low} {high} {y} {ys} h k f) start rest j =
 -- they are there, or the answer is where the sequence began
 data Found (left low high start : ℕ) (bs : List ℕ) : Type 0 where
   found : {ys : List ℕ} → Furthers left low high ys → (rest : List ℕ) → bs ≡ ys ++ rest → Found left low high start bs
-  cut : ((j : ℕ) → utf8_from bs j (Inside left low high start) ≡ BadAt start) → Found left low high start bs
+  cut : ((j : ℕ) → utf8_from bs j (Inside left low high start) ≡ bad_at start) → Found left low high start bs
 
 found_within : (left low high start y : ℕ) (bs : List ℕ) → (low ≤ y → y ≤ high → Found left low high start (y ∷ bs)) → Found left low high start (y ∷ bs)
 found_within left low high start y bs within =
@@ -156,7 +164,7 @@ form_read (four {b} {y} r) rest i =
 pub data Start (i : ℕ) : List ℕ → Type 0 where
   over : Start i []
   character : {c : ℕ} {f : List ℕ} → Form c f → (rest bs : List ℕ) → bs ≡ f ++ rest → Start i bs
-  broken : (b : ℕ) (bs : List ℕ) → utf8_from (b ∷ bs) i Between ≡ BadAt i → Start i (b ∷ bs)
+  broken : (b : ℕ) (bs : List ℕ) → utf8_from (b ∷ bs) i Between ≡ bad_at i → Start i (b ∷ bs)
 
 -- so many further bytes within limits make a form of some character
 record Formed (f : List ℕ) : Type 0 where

@@ -14,10 +14,9 @@ use Rattle.basics.proofs.Tests.{by_cases, either}
 use Rattle.utf8.specs.Utf8.{after_first, after_further, after_byte, utf8_from}
 use Rattle.utf8.specs.declared.Utf8State.{Utf8State}
 use Rattle.utf8.specs.declared.Utf8State.TheVariants.{Between, Inside, Broken}
-use Rattle.utf8.specs.declared.Validity.TheVariants.{Good}
 use Rattle.lines.specs.Words.{is_blank, first_from, first_at, word_at, bytes_of}
 use Rattle.encoding.specs.Encoding.{IsUtf8, is_border, GoodWord}
-use Rattle.encoding.proofs.Reading.{after_alone, first_byte, stays_broken, further_bad}
+use Rattle.encoding.proofs.Reading.{good, after_alone, first_byte, stays_broken, further_bad}
 use Rattle.encoding.proofs.Encoding.{good_utf8, utf8_exactly}
 use Rattle.encoding.proofs.Plain.{plain_exactly}
 
@@ -44,7 +43,7 @@ none_due (Inside left low high start) b i h = search (either NoneDue)
 none_due (Broken start) b i h = tt
 
 -- so at a border of good bytes nothing is under way
-is_between : (p : Utf8State) (bs : List ℕ) (i : ℕ) → NoneDue p → Border bs → utf8_from bs i p ≡ Good → p ≡ Between
+is_between : (p : Utf8State) (bs : List ℕ) (i : ℕ) → NoneDue p → Border bs → utf8_from bs i p ≡ good → p ≡ Between
 unfolding utf8_from
 is_between Between bs i h w e = refl
 is_between (Inside left low high start) [] i h w e = cc
@@ -53,7 +52,7 @@ is_between (Inside left low high start) (b ∷ bs) i h w e =
     cc (further_bad low high start b bs i left (rw (lt-leb low b l)))
 is_between (Broken start) bs i h w e = cc (stays_broken bs i start)
 
-good_cut : (xs ys : List ℕ) (i : ℕ) (p : Utf8State) → NoneDue p → Border ys → utf8_from (xs ++ ys) i p ≡ Good → (utf8_from xs i p ≡ Good) × IsUtf8 ys
+good_cut : (xs ys : List ℕ) (i : ℕ) (p : Utf8State) → NoneDue p → Border ys → utf8_from (xs ++ ys) i p ≡ good → (utf8_from xs i p ≡ good) × IsUtf8 ys
 unfolding utf8_from
 good_cut [] ys i p h w e =
     let q = is_between p ys i h w e in
@@ -62,12 +61,12 @@ good_cut (x ∷ xs) ys i p h w e = good_cut xs ys (i + 1) (after_byte p x i) (no
 
 cut_at : (k : ℕ) (bs : List ℕ) → Border (drop k bs) → IsUtf8 bs → IsUtf8 (take k bs) × IsUtf8 (drop k bs)
 cut_at k bs w u =
-    let t = good_cut (take k bs) (drop k bs) 0 Between tt w (rw (take-append-drop k bs) ((utf8_exactly bs).complete Good u)) in
+    let t = good_cut (take k bs) (drop k bs) 0 Between tt w (rw (take-append-drop k bs) ((utf8_exactly bs).complete good u)) in
     (good_utf8 0 (take k bs) t.0, t.1)
 
 cut_after : (bs : List ℕ) → Border bs → IsUtf8 bs → IsUtf8 (drop 1 bs)
 cut_after [] w u = u
-cut_after (b ∷ bs) w u = good_utf8 1 bs (sym (first_byte b 0 bs (after_alone b 0 (blank_ascii b w))) ∙ (utf8_exactly (b ∷ bs)).complete Good u)
+cut_after (b ∷ bs) w u = good_utf8 1 bs (sym (first_byte b 0 bs (after_alone b 0 (blank_ascii b w))) ∙ (utf8_exactly (b ∷ bs)).complete good u)
 
 -- ---- the rest of a line, and its next word
 

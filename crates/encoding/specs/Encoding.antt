@@ -1,12 +1,10 @@
 -- What UTF-8 is, from the scalar values that it stands for; and what is claimed by it of a line, of the words of a line, and of a plain operand.
 use Rattle.std.specs.Prelude.{ℕ, ◌+◌, ◌/◌, ◌%◌, ◌≤◌, ◌<◌, ◌≡◌, ◌≢◌, Bool, true, ◌||◌, List, [], ◌∷◌, ◌++◌, length, take, drop, get_or, ltb}
 use Rattle.basics.specs.Choice.{pick}
-use Rattle.basics.specs.declared.Maybe.{Maybe}
-use Rattle.basics.specs.declared.Maybe.TheVariants.{Nothing, Character}
+use Rattle.std.specs.Prelude.{Option, None, Some, Result, Ok, Err}
 use Rattle.scalars.specs.Characters.{is_scalar}
 use Rattle.utf8.specs.Utf8.{utf8}
-use Rattle.utf8.specs.declared.Validity.{Validity}
-use Rattle.utf8.specs.declared.Validity.TheVariants.{Good, BadAt}
+use Rattle.utf8.specs.declared.BadSequence.{BadSequence}
 use Rattle.lines.specs.Words.{is_blank, word_at, bytes_of}
 use Rattle.characters.specs.Characters.{backslash, character_of}
 
@@ -43,9 +41,9 @@ pub record BreaksAt (bs : List ℕ) (p : ℕ) : Type 0 where
   pub within : p < length bs
 
 -- what an answer of `utf8` says of a line
-abbrev pub Says : Validity → List ℕ → Type 0
-Says Good line = IsUtf8 line
-Says (BadAt p) line = BreaksAt line p
+abbrev pub Says : Result Unit BadSequence → List ℕ → Type 0
+Says (Ok u) line = IsUtf8 line
+Says (Err bad) line = BreaksAt line bad.start
 
 -- f answers v of these bytes exactly if what v says of them is so
 pub record Exactly {A : Type 0} (f : List ℕ → A) (Saying : A → List ℕ → Type 0) (bs : List ℕ) : Type 0 where
@@ -72,9 +70,9 @@ pub record IsForm (c : ℕ) (w : List ℕ) : Type 0 where
   pub form : w ≡ encoded c
 
 -- what an answer of `character_of` says of a word that is plain
-abbrev pub SaysPlain : Maybe → List ℕ → Type 0
-SaysPlain (Character c) w = IsForm c w
-SaysPlain Nothing w = (c : ℕ) → IsForm c w → ⊥
+abbrev pub SaysPlain : Option ℕ → List ℕ → Type 0
+SaysPlain (Some c) w = IsForm c w
+SaysPlain None w = (c : ℕ) → IsForm c w → ⊥
 
 -- what is claimed of a border of a line that is UTF-8: the rest of the line is UTF-8, and so is the next word, which, if it is plain,
 -- is a character exactly if it is the form of that character

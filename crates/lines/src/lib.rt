@@ -50,6 +50,19 @@ pub struct Rejection {
     pub column: usize,
 }
 
+impl From<Refusal> for Rejection {
+    ghost from_gives = { λ refusal rejection. rejection ≡ record { refusal = refusal; line = 0; column = 0 } };
+
+    // A refusal that is of no line.
+    fn from(refusal: Refusal) -> Rejection {
+        Rejection {
+            refusal,
+            line: 0,
+            column: 0,
+        }
+    }
+}
+
 impl LineFault {
     // The fault by its place in the text, where `here` is the line with that number, with its CR if it has one.
     pub fn in_line(self, here: &[u8], line: usize) -> Rejection

@@ -1,15 +1,8 @@
 -- What the code knows beyond the rules: the positions that the readers of operands answer.
-use Rattle.std.specs.Prelude.{ℕ, ◌≤◌}
-use Rattle.operands.specs.declared.Operand.{Operand}
-use Rattle.operands.specs.declared.Operand.TheVariants as O
-use Rattle.operands.specs.declared.DotsOperand.{DotsOperand}
-use Rattle.operands.specs.declared.DotsOperand.TheVariants as D
+use Rattle.std.specs.Prelude.{ℕ, ◌≤◌, Result, MatchResult}
+use Rattle.lines.specs.declared.LineFault.{LineFault}
+use Rattle.lines.specs.declared.Parsed.{Parsed}
 
 -- a position that is answered lies within so many bytes
-abbrev pub OperandWithin : Operand → ℕ → Type 0
-OperandWithin (O.Fault refusal left) n = left ≤ n
-OperandWithin (O.Value c after) n = after ≤ n
-
-abbrev pub DotsWithin : DotsOperand → ℕ → Type 0
-DotsWithin (D.Fault refusal left) n = left ≤ n
-DotsWithin (D.Value cell after) n = after ≤ n
+abbrev pub OperandWithin : Result (Parsed ℕ) LineFault → ℕ → Type 0
+OperandWithin r n = MatchResult r (λ p. p.after ≤ n) (λ fault. fault.left ≤ n)

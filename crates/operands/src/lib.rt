@@ -1,62 +1,82 @@
 // The operands of a directive: a character, a byte, dots, a cell.
 #![tactic(auto)]
 
-ghost use Rattle.std.specs.Prelude.{◌≡◌, ◌≤◌, length};
-ghost use Rattle.operands.specs.Operands.{character_at, dots_operand_at};
-ghost use Rattle.operands.specs.Internal.{OperandWithin, DotsWithin};
+ghost use Rattle.std.specs.Prelude.{◌≡◌, ◌≤◌, ◌<◌, length, IfOk, IfErr};
+ghost use Rattle.operands.specs.Operands.{operand_word, character_at, dots_operand_at, cell_operand_at};
+ghost use Rattle.operands.specs.Internal.{OperandWithin};
 
-use basics::{Maybe, Refusal};
-use dots::CellRead;
-use lines::next_word;
+use basics::Refusal;
+use characters::OperandKind;
+use lines::{LineFault, Parsed, Word};
 
-// A character or byte operand: its character and the position after it; or its fault, and the number of bytes from the
-// fault's place to the line's end.
-#[derive(Clone, Copy)]
-pub enum Operand {
-    Fault(Refusal, usize),
-    Value(u32, usize),
-}
-
-// A dots or cell operand, the same way.
-#[derive(Clone, Copy)]
-pub enum DotsOperand {
-    Fault(Refusal, usize),
-    Value(u8, usize),
-}
-
-// The next word from `at` on as a character operand, or, where `byte` holds, as a byte operand; both by a local character
-// set.
-pub fn character_at(charset: u32, line: &[u8], at: usize, byte: bool) -> Operand
+// The next word from `at` on, with which an operand begins.
+#[tactic(auto, using(crate::proofs::Operands::word_cases), unfolding(crate::specs::Operands::operand_word))]
+fn operand_word(line: &[u8], at: usize) -> Result<Word, LineFault>
     requires { at ≤ length line.now }
-    ensures value { result ≡ character_at charset byte line.now at }
+    ensures value { result ≡ operand_word line.now at }
+    ensures word_order { IfOk result (λ w. w.start < w.end) }
+    ensures word_within { IfOk result (λ w. w.end ≤ length line.now) }
+    ensures fault_within { IfErr result (λ fault. fault.left ≤ length line.now) }
+{
+    let w = lines::next_word(line, at);
+    if w.start == w.end {
+        return Err(LineFault {
+            refusal: Refusal::MissingOperand,
+            left: 0,
+        });
+    }
+    Ok(w)
+}
+
+// The next word from `at` on as an operand of that kind, by a local character set.
+#[tactic(auto, using(basics::proofs::Tests::on_value), unfolding(crate::specs::Operands::character_at))]
+pub fn character_at(
+    charset: u32,
+    line: &[u8],
+    at: usize,
+    kind: OperandKind,
+) -> Result<Parsed<u32>, LineFault>
+    requires { at ≤ length line.now }
+    ensures value { result ≡ character_at charset kind line.now at }
     ensures operand_within { OperandWithin result (length line.now) }
 {
-    let w = next_word(line, at);
-    let start = w.start;
-    let end = w.end;
-    if start == end {
-        return Operand::Fault(Refusal::MissingOperand, 0);
-    }
-    match characters::word_value(charset, &line[start..end], byte) {
-        Maybe::Nothing => Operand::Fault(Refusal::BadCharacter, line.len() - start),
-        Maybe::Character(c) => Operand::Value(c, end),
+    let w = operand_word(line, at)?;
+    match characters::word_value(charset, &line[w.start..w.end], kind) {
+        Some(value) => Ok(Parsed {
+            value,
+            after: w.end,
+        }),
+        None => Err(LineFault {
+            refusal: Refusal::BadCharacter,
+            left: line.len() - w.start,
+        }),
     }
 }
 
-// What begins at the next word from `at` on as a dots operand, or, where `parentheses` does not hold, as a cell operand.
-pub fn dots_operand_at(line: &[u8], at: usize, parentheses: bool) -> DotsOperand
+// What begins at the next word from `at` on as a dots operand.
+#[tactic(auto, unfolding(crate::specs::Operands::dots_operand_at))]
+pub fn dots_operand_at(line: &[u8], at: usize) -> Result<Parsed<u8>, LineFault>
     requires { at ≤ length line.now }
-    ensures value { result ≡ dots_operand_at parentheses line.now at }
-    ensures dots_within { DotsWithin result (length line.now) }
+    ensures value { result ≡ dots_operand_at line.now at }
+    ensures dots_within { OperandWithin result (length line.now) }
 {
-    let w = next_word(line, at);
-    let start = w.start;
-    let end = w.end;
-    if start == end {
-        return DotsOperand::Fault(Refusal::MissingOperand, 0);
-    }
-    match dots::dots_at(line, start, parentheses) {
-        CellRead::Bad => DotsOperand::Fault(Refusal::BadDots, line.len() - start),
-        CellRead::Read(cell, after) => DotsOperand::Value(cell, after),
-    }
+    let w = operand_word(line, at)?;
+    dots::dots_at(line, w.start).ok_or(LineFault {
+        refusal: Refusal::BadDots,
+        left: line.len() - w.start,
+    })
+}
+
+// What begins at the next word from `at` on as a cell operand.
+#[tactic(auto, unfolding(crate::specs::Operands::cell_operand_at))]
+pub fn cell_operand_at(line: &[u8], at: usize) -> Result<Parsed<u8>, LineFault>
+    requires { at ≤ length line.now }
+    ensures value { result ≡ cell_operand_at line.now at }
+    ensures cell_within { OperandWithin result (length line.now) }
+{
+    let w = operand_word(line, at)?;
+    dots::cell_at(line, w.start).ok_or(LineFault {
+        refusal: Refusal::BadDots,
+        left: line.len() - w.start,
+    })
 }

@@ -1,6 +1,5 @@
 -- The conditions, judged with the definitions of the lines so far.
-use Rattle.std.specs.Prelude.{ℕ, ◌%◌, Bool, ◌||◌, List, eqb}
-use Rattle.basics.specs.Choice.{is_character}
+use Rattle.std.specs.Prelude.{ℕ, ◌%◌, Bool, ◌||◌, List, eqb, is_some}
 use Rattle.definitions.specs.declared.Definition.{Definition}
 use Rattle.definitions.specs.Definitions.{table, typed_in}
 use Rattle.rules.specs.Rules.{lookup}
@@ -13,4 +12,4 @@ has_glyph charset ds c =
 
 -- `ifCell`: some `char` so far has that cell
 unfoldable pub has_cell : List Definition → ℕ → Bool
-has_cell ds cell = is_character (typed_in ds cell)
+has_cell ds cell = is_some (typed_in ds cell)

@@ -17,7 +17,8 @@ is_braille c = between 0x2800 0x28FF c
 abbrev pub is_private : ℕ → Bool
 is_private c = between 0xF000 0xF0FF c
 
--- what an operand can stand for, and a table hold: a scalar value, but none of the row of rule 2, which is replaced when read
+-- what an operand can stand for, and a table hold: a scalar value, but none of the row of rule 2, which is replaced
+-- when read
 abbrev pub is_operand : ℕ → Bool
 is_operand c = is_scalar c && not (is_private c)
 

@@ -2,7 +2,9 @@
 #![tactic(auto)]
 
 ghost use Rattle.std.specs.Prelude.{◌≡◌};
-ghost use Rattle.scalars.specs.Characters.{is_scalar, is_braille, is_private, is_operand, is_charset, as_byte, character_by, byte_by, local_character, local_byte, local_of, stands_for, base_of, stand_in_of};
+ghost use Rattle.scalars.specs.Characters.{is_scalar, is_braille, is_private, is_operand, is_charset, as_byte};
+ghost use Rattle.scalars.specs.Characters.{character_by, byte_by, local_character, local_byte, local_of};
+ghost use Rattle.scalars.specs.Characters.{stands_for, base_of, stand_in_of};
 
 // Whether `c` is a Unicode scalar value.
 pub fn is_scalar(c: u32) -> bool
