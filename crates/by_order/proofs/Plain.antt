@@ -1,15 +1,17 @@
 -- Calls by an order answer as the plain ones do, and a search finds the pair in at most eleven comparisons.
+use Rattle.std.specs.Prelude.{Some, Result, Ok, Err}
 use Prim.Native.Nat.{ℕ, ◌*◌, ◌≤◌, ◌<◌}
 use mathlib.Core.Path.{◌≡◌, refl, sym, ap, ◌∙◌}
 use mathlib.Core.Bool.{true, ◌||◌}
 use mathlib.Core.List.{List}
 use native.Mathlib.Omega.{arith}
 use lib.Dec.{ltb}
-use lib.ListN.{length, get_or, take, drop, length-append, length-drop}
+use lib.ListN.{length, take, drop, length-append, length-drop}
 use lib.Seq.{take_at}
 use borrow.Author.Tests.{le-ltb, ltb-false}
 use Rattle.basics.specs.Choice.{pick}
-use Rattle.basics.specs.Refusals.{Reply, answered, refused, and_then}
+use Rattle.basics.specs.declared.Refused.{Refused}
+use Rattle.basics.specs.Refusals.{Reply, answered, refused, and_then, reply_of}
 use Rattle.basics.specs.Buffers.{over, written_over}
 use Rattle.basics.proofs.Tests.{by_cases, by_test}
 use Rattle.scalars.specs.Characters.{is_scalar}
@@ -29,15 +31,10 @@ use Rattle.order.proofs.Halving.{eleven, pair_hit, no_pair}
 use Rattle.ordered.specs.Tables.{ordered_table}
 use Rattle.ordered.proofs.Finds.{find_nowhere}
 use Rattle.ordered.proofs.Checks.{lent_distinct}
-use Rattle.lookup.specs.declared.Looked.{Looked}
-use Rattle.lookup.specs.declared.Looked.TheVariants.{Answered}
-use Rattle.lookup.specs.Calls.{lookup_reply, looked_reply, first_no_scalar, unless_at, page_plan}
+use Rattle.lookup.specs.Calls.{lookup_reply, first_no_scalar, unless_at, page_plan}
 use Rattle.lookup.proofs.WholeWalks.{shown_small}
-use Rattle.by_order.specs.declared.Pair.TheVariants.{At, Nowhere}
 use Rattle.by_order.specs.declared.Sought.{Sought}
-use Rattle.by_order.specs.declared.Searched.{Searched}
-use Rattle.by_order.specs.declared.Searched.TheVariants as S
-use Rattle.by_order.specs.Calls.{build_plan, ordered_lookup, ordered_plan, sought_of, search_reply, searched_reply}
+use Rattle.by_order.specs.Calls.{build_plan, ordered_lookup, ordered_plan, pair_at, sought_of, search_reply}
 use Rattle.by_order.specs.Plain.{AsPlain, built, Right, Serves}
 
 -- ---- where the order is no reason to refuse
@@ -115,14 +112,15 @@ module _ (ws os : List ℕ) (ds : List Definition) (e : ordered_table ws os ≡ 
       record { fits = t.fits; long = omega (arith, b.long, t.limit); rising = order_rises ws (length ds) os t.distinct b.order }
 
   -- h is what the search answered
-  right_pair : (c : ℕ) (h : Halved) → h ≡ searched ws os (length ds) c → Right ws ds c (pick h.found (At (get_or os h.place 0)) Nowhere)
-  right_pair c h is =
-      let t = known ws ds (both_passed ws os ds e).lent in
-      by_test (Right ws ds c) h.found
-      (λ found. pair_hit ws (length ds) os ordered c h is found)
-      (λ none.
-      ap (λ (rs : List Definition). find rs c) t.pairs
-      ∙ find_nowhere (length ds) ws t.fits c (no_pair ws (length ds) os ordered c h is none))
+  right_pair : (c : ℕ) (h : Halved) → h ≡ searched ws os (length ds) c → Right ws ds c (pair_at os h.place)
+  right_pair c h is = go h.place refl
+    where
+      go : (r : Result ℕ ℕ) → h.place ≡ r → Right ws ds c (pair_at os r)
+      go (Ok place) p = pair_hit ws (length ds) os ordered c h is place p
+      go (Err place) p =
+          let t = known ws ds (both_passed ws os ds e).lent in
+          ap (λ (rs : List Definition). find rs c) t.pairs
+          ∙ find_nowhere (length ds) ws t.fits c (no_pair ws (length ds) os ordered c h is place p)
 
   -- what the search call answers is what was sought
   answers : (c : ℕ) (s : Sought) → search_reply ws os c ≡ answered s → sought_of os (searched ws os (length ds) c) ≡ s
@@ -144,16 +142,16 @@ module _ (ws os : List ℕ) (ds : List Definition) (e : ordered_table ws os ≡ 
 -- ---- how large the numbers of an answer are
 
 -- r is what the lookup call answered
-pub ordered_small : (ws os : List ℕ) (c : ℕ) {r : Looked} {a : Answer} → looked_reply r ≡ ordered_lookup ws os c → r ≡ Answered a → a.links ≤ definition_limit
+pub ordered_small : (ws os : List ℕ) (c : ℕ) {r : Result Answer Refused} {a : Answer} → reply_of r ≡ ordered_lookup ws os c → r ≡ Ok a → a.links ≤ definition_limit
 unfolding ordered_lookup
 ordered_small ws os c {r} {a} p q = go (ordered_table ws os) p
   where
-    go : (t : Reply (List Definition)) → looked_reply r ≡ and_then t (λ ds. lookup_reply ws c) → a.links ≤ definition_limit
+    go : (t : Reply (List Definition)) → reply_of r ≡ and_then t (λ ds. lookup_reply ws c) → a.links ≤ definition_limit
     go (answered ds) e = shown_small ws c e q
     go (refused number place) e = absurd (let z : ◌≡◌ {A = ℕ} 0 1 = cc (rw q at e) in omega arith)
 
 -- and the search call
-module _ (ws os : List ℕ) (c : ℕ) {r : Searched} {s : Sought} (p : searched_reply r ≡ search_reply ws os c) (q : r ≡ S.Answered s) where
+module _ (ws os : List ℕ) (c : ℕ) {r : Result Sought Refused} {s : Sought} (p : reply_of r ≡ search_reply ws os c) (q : r ≡ Ok s) where
   found : search_reply ws os c ≡ answered s
   found = sym p ∙ rw q
 
@@ -169,5 +167,5 @@ module _ (ws os : List ℕ) (c : ℕ) {r : Searched} {s : Sought} (p : searched_
   pub few_compared : s.comparisons ≤ 11
   few_compared = served (s.comparisons ≤ 11) (λ ds t l. t.few c s found)
 
-  pub pair_small : (k : ℕ) → s.pair ≡ At k → k < definition_limit
-  pair_small k e = served (k < definition_limit) (λ ds t l. let right : Right ws ds c (At k) = rw e at (t.right c s found) in omega (arith, right.0))
+  pub pair_small : (k : ℕ) → s.pair ≡ Some k → k < definition_limit
+  pair_small k e = served (k < definition_limit) (λ ds t l. let right : Right ws ds c (Some k) = rw e at (t.right c s found) in omega (arith, right.0))

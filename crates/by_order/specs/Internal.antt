@@ -1,20 +1,12 @@
--- What the code knows beyond the rules: answers that a page has had are kept, each in the slot of its character.
-use Rattle.std.specs.Prelude.{ℕ, ◌≡◌, List, map, length}
-use Rattle.pairs.specs.Words.{charset_of, table_of}
-use Rattle.rules.specs.Rules.{lookup}
-use Rattle.ordered.specs.Internal.{slots}
+-- What the code knows beyond the rules: what a page keeps for a character is what it shows.
+use Rattle.std.specs.Prelude.{ℕ, ◌≡◌}
+use Rattle.rules.specs.declared.Answer.{Answer}
+use Rattle.by_order.specs.declared.Shown.{Shown}
 
--- what a page shows for a character
-abbrev pub shown_cell : List ℕ → ℕ → ℕ → ℕ
-shown_cell ws n c = (lookup (charset_of ws) (table_of n ws) c).cell
+-- what a page shows for a character by a lookup
+abbrev pub shown_of : (ℕ → Answer) → ℕ → Shown
+shown_of look c = record { character = c; cell = (look c).cell; rule = (look c).rule }
 
-abbrev pub shown_rule : List ℕ → ℕ → ℕ → ℕ
-shown_rule ws n c = (lookup (charset_of ws) (table_of n ws) c).rule
-
--- each slot has a character, its cell and its rule
-pub record Kept (ws : List ℕ) (n : ℕ) (seen shown ruled : List ℕ) : Type 0 where
-  pub size : length seen ≡ slots
-  pub size_shown : length shown ≡ slots
-  pub size_ruled : length ruled ≡ slots
-  pub cells : shown ≡ map (shown_cell ws n) seen
-  pub rules : ruled ≡ map (shown_rule ws n) seen
+-- what is kept is shown so for its character
+abbrev pub IsShown : (ℕ → Answer) → Shown → Type 0
+IsShown look kept = kept ≡ shown_of look kept.character

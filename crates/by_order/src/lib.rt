@@ -2,234 +2,191 @@
 #![tactic(auto)]
 
 ghost use Rattle.std.specs.Prelude.{◌≡◌, map, ◌≤◌, length};
-ghost use Rattle.basics.specs.Refusals.{filling_reply};
+ghost use Rattle.std.specs.List.{All};
+ghost use Rattle.basics.specs.Refusals.{reply_of};
 ghost use Rattle.basics.specs.Buffers.{over};
 ghost use Rattle.pairs.specs.Words.{charset_of, table_of};
 ghost use Rattle.table.specs.Check.{lent_table};
+ghost use Rattle.definitions.specs.Definitions.{table};
 ghost use Rattle.rules.specs.Rules.{lookup};
-ghost use Rattle.rules.specs.Internal.{last_cells};
+ghost use Rattle.rules.specs.Internal.{lookup_by};
 ghost use Rattle.order.specs.Order.{searched};
-ghost use Rattle.order.specs.Internal.{Ordered};
-ghost use Rattle.ordered.specs.Internal.{Ready};
-ghost use Rattle.lookup.specs.Calls.{looked_reply, LentLinks, Pages};
-ghost use Rattle.by_order.specs.Calls.{Builds, ordered_lookup, ordered_plan, sought_of, search_reply, searched_reply};
-ghost use Rattle.by_order.specs.Internal.{shown_cell, shown_rule, Kept};
+ghost use Rattle.lookup.specs.Calls.{LentLinks, Pages};
+ghost use Rattle.by_order.specs.Calls.{Builds, ordered_lookup, ordered_plan, sought_of, search_reply};
+ghost use Rattle.by_order.specs.Internal.{shown_of, IsShown};
 
-use basics::{Filling, Refusal};
+use basics::{Refusal, Refused};
 use definitions::DEFINITION_LIMIT;
-use lookup::{Looked, NoScalar};
-use ordered::{SLOTS, Tested};
-use rules::{Answer, LastCells};
-use table::{Checked, TABLE_WORDS};
+use order::InOrder;
+use ordered::{Marked, SLOTS};
+use pairs::Finder;
+use rules::{Answer, Rules};
 
-// What the building call answers: the count of definitions, or a refusal with its place.
-#[derive(Clone, Copy)]
-pub enum Built {
-    Count(usize),
-    Refused(Refusal, usize),
-}
-
-// The number of a pair, if there is one.
-#[derive(Clone, Copy)]
-pub enum Pair {
-    At(usize),
-    Nowhere,
-}
-
-// What a search tells: the pair that has the character, and how many pairs were looked at.
+// What a search tells: the number of the pair that has the character, if one has it, and how many pairs were looked at.
 #[derive(Clone, Copy)]
 pub struct Sought {
-    pub pair: Pair,
+    pub pair: Option<usize>,
     pub comparisons: usize,
 }
 
-// What the search call answers; a refusal with its place.
-#[derive(Clone, Copy)]
-pub enum Searched {
-    Answered(Sought),
-    Refused(Refusal, usize),
-}
-
-// What a page shows for a character.
+// A character, and what a page shows for it.
 #[derive(Clone, Copy)]
 struct Shown {
+    character: u32,
     cell: u8,
     rule: u8,
 }
 
-// The building call: any slices.
-pub fn build_order(words: &[u32], order: &mut [u32]) -> Built
-    ensures { Builds words.now order.old result order.new }
-{
-    if order.len() < DEFINITION_LIMIT {
-        return Built::Refused(Refusal::ShortSlice, 0);
-    }
-    if words.len() < TABLE_WORDS {
-        return Built::Refused(Refusal::ShortSlice, 0);
-    }
-    match table::check_table(words) {
-        Checked::FaultAt(pair) => Built::Refused(Refusal::NotTable, pair),
-        Checked::Sound(count) => {
-            order::put_in_order(words, count, order);
-            Built::Count(count)
+// Answers that a page has had, each in the slot of its character; a later character takes a slot over.
+#[derive(Drop)]
+struct Memory<T: Finder + Copy> {
+    by: Rules<T>,
+    kept: [Shown; SLOTS],
+    ghost right: { All (IsShown (lookup_by by.charset (table (T.definitions by.finder)) by.last)) kept },
+}
+
+impl<T: Finder + Copy> Memory<T> {
+    // Each slot begins with the character U+0000.
+    fn new(by: Rules<T>) -> Memory<T>
+        ensures { result.by ≡ by }
+    {
+        let first = shown_by(&by, 0);
+        Memory {
+            by,
+            kept: [first; SLOTS],
         }
+    }
+
+    // What is shown for a character: as it is kept, or by the rules, and then kept.
+    fn recall(&mut self, character: u32) -> Shown
+        ensures same { self.new.by ≡ self.old.by }
+        ensures shows { result ≡ shown_of (lookup_by self.old.by.charset (table (T.definitions self.old.by.finder)) self.old.by.last) character }
+    {
+        let slot = ordered::slot_of(character);
+        let kept = self.kept[slot];
+        if kept.character == character {
+            return kept;
+        }
+        let shown = shown_by(&self.by, character);
+        self.kept[slot] = shown;
+        shown
     }
 }
 
-fn seek(words: &[u32], order: &[u32], count: usize, c: u32) -> Sought
-    requires { Ordered words.now count order.now }
-    ensures { result ≡ sought_of order.now (searched words.now order.now count c) }
+// What is shown for a character by the rules.
+fn shown_by<T: Finder>(by: &Rules<T>, character: u32) -> Shown
+    ensures { result ≡ shown_of (lookup_by by.now.charset (table (T.definitions by.now.finder)) by.now.last) character }
 {
-    let h = order::halve(words, order, count, c);
-    let place = h.place;
-    let comparisons = h.comparisons;
-    if h.found {
-        return Sought {
-            pair: Pair::At(order::wide(order[place])),
-            comparisons,
-        };
+    let answer = by.answer_of(character);
+    Shown {
+        character,
+        cell: answer.cell,
+        rule: answer.rule,
     }
+}
+
+// The building call: any slices.
+pub fn build_order(words: &[u32], order: &mut [u32]) -> Result<usize, Refused>
+    ensures { Builds words.now order.old result order.new }
+{
+    if order.len() < DEFINITION_LIMIT {
+        return Err(Refusal::ShortSlice.into());
+    }
+    let count = table::lent_table(words)?.count;
+    order::put_in_order(words, count, order);
+    Ok(count)
+}
+
+// The search for a character.
+fn seek(in_order: &InOrder<'_>, c: u32) -> Sought
+    ensures { result ≡ sought_of in_order.now.order.now (searched in_order.now.words.now in_order.now.order.now in_order.now.count c) }
+{
+    let halved = in_order.halve(c);
+    let pair = match halved.place {
+        Ok(place) => Some(in_order.order[place] as usize),
+        Err(_) => None,
+    };
     Sought {
-        pair: Pair::Nowhere,
-        comparisons,
+        pair,
+        comparisons: halved.comparisons,
     }
 }
 
 // The search call: any slices, any number.
-pub fn search(words: &[u32], order: &[u32], c: u32) -> Searched
-    ensures { searched_reply result ≡ search_reply words.now order.now c }
+pub fn search(words: &[u32], order: &[u32], c: u32) -> Result<Sought, Refused>
+    ensures { reply_of result ≡ search_reply words.now order.now c }
 {
-    match ordered::test_both(words, order) {
-        Tested::Refused(refusal, place) => Searched::Refused(refusal, place),
-        Tested::InOrder(count) => {
-            if scalars::is_scalar(c) {
-                return Searched::Answered(seek(words, order, count, c));
-            }
-            Searched::Refused(Refusal::NotScalar, 0)
-        }
+    let in_order = ordered::test_both(words, order)?;
+    if !scalars::is_scalar(c) {
+        return Err(Refusal::NotScalar.into());
     }
+    Ok(seek(&in_order, c))
 }
 
 // The answer for one scalar value. It is not worth marks of its own, so every slot has one.
-fn answer_in(words: &[u32], order: &[u32], count: usize, c: u32) -> Answer
-    requires { Ordered words.now count order.now }
-    ensures { result ≡ lookup (charset_of words.now) (table_of count words.now) c }
+fn answer_in(in_order: &InOrder<'_>, c: u32) -> Answer
+    ensures { result ≡ lookup (charset_of in_order.now.words.now) (table_of in_order.now.count in_order.now.words.now) c }
 {
-    let marks = [1u8; SLOTS];
-    let last = ordered::last_by(words, order, &marks, count);
-    ordered::answer_by(words, order, &marks, count, last, c)
+    let in_order = *in_order;
+    let marks = [1; SLOTS];
+    let finder = Marked {
+        in_order,
+        marks: &marks,
+        limit: in_order.count,
+    };
+    let by = Rules::new(finder, table::charset_of(in_order.words));
+    by.answer_of(c)
 }
 
 // The lookup call by an order: any slices, any number.
-pub fn look_up_by(words: &[u32], order: &[u32], c: u32) -> Looked
-    ensures answer { looked_reply result ≡ ordered_lookup words.now order.now c }
-    ensures links { LentLinks (charset_of words.now) (lent_table words.now) c (looked_reply result) }
+pub fn look_up_by(words: &[u32], order: &[u32], c: u32) -> Result<Answer, Refused>
+    ensures answer { reply_of result ≡ ordered_lookup words.now order.now c }
+    ensures links { LentLinks (charset_of words.now) (lent_table words.now) c (reply_of result) }
 {
-    match ordered::test_both(words, order) {
-        Tested::Refused(refusal, place) => Looked::Refused(refusal, place),
-        Tested::InOrder(count) => {
-            if scalars::is_scalar(c) {
-                return Looked::Answered(answer_in(words, order, count, c));
-            }
-            Looked::Refused(Refusal::NotScalar, 0)
-        }
+    let in_order = ordered::test_both(words, order)?;
+    if !scalars::is_scalar(c) {
+        return Err(Refusal::NotScalar.into());
     }
-}
-
-// What is shown for a character: as it is kept, or by the rules, and then kept.
-fn recall(
-    words: &[u32],
-    order: &[u32],
-    marks: &[u8],
-    count: usize,
-    last: LastCells,
-    c: u32,
-    seen: &mut [u32],
-    shown: &mut [u8],
-    ruled: &mut [u8],
-) -> Shown
-    requires { Ready words.now count order.now marks.now × (last ≡ last_cells (table_of count words.now)) × Kept words.now count seen.old shown.old ruled.old }
-    ensures shows { (result.cell ≡ shown_cell words.now count c) × (result.rule ≡ shown_rule words.now count c) }
-    ensures keeps { Kept words.now count seen.new shown.new ruled.new }
-{
-    let slot = ordered::slot_of(c);
-    if seen[slot] == c {
-        return Shown {
-            cell: shown[slot],
-            rule: ruled[slot],
-        };
-    }
-    let a = ordered::answer_by(words, order, marks, count, last, c);
-    seen[slot] = c;
-    shown[slot] = a.cell;
-    ruled[slot] = a.rule;
-    Shown {
-        cell: a.cell,
-        rule: a.rule,
-    }
+    Ok(answer_in(&in_order, c))
 }
 
 // Fills both buffers, a cell and a rule for each character, with answers that are kept on the way.
-fn fill_kept(
-    words: &[u32],
-    order: &[u32],
-    marks: &[u8],
-    count: usize,
-    last: LastCells,
+fn fill_kept<T: Finder + Copy>(
+    memory: &mut Memory<T>,
     characters: &[u32],
     cells: &mut [u8],
     rules: &mut [u8],
-    seen: &mut [u32],
-    shown: &mut [u8],
-    ruled: &mut [u8],
 )
-    requires { Ready words.now count order.now marks.now × (last ≡ last_cells (table_of count words.now)) × (length characters.now ≤ length cells.old) × (length characters.now ≤ length rules.old) × Kept words.now count seen.old shown.old ruled.old }
-    ensures cells { cells.new ≡ over (map (shown_cell words.now count) characters.now) cells.old }
-    ensures rules { rules.new ≡ over (map (shown_rule words.now count) characters.now) rules.old }
+    requires wide { length characters.now ≤ length cells.old }
+    requires deep { length characters.now ≤ length rules.old }
+    ensures cells { cells.new ≡ over (map (λ c. (lookup_by memory.old.by.charset (table (T.definitions memory.old.by.finder)) memory.old.by.last c).cell) characters.now) cells.old }
+    ensures rules { rules.new ≡ over (map (λ c. (lookup_by memory.old.by.charset (table (T.definitions memory.old.by.finder)) memory.old.by.last c).rule) characters.now) rules.old }
 {
-    let mut i = 0;
-    while i < characters.len() {
-        let a = recall(
-            words,
-            order,
-            marks,
-            count,
-            last,
-            characters[i],
-            seen,
-            shown,
-            ruled,
-        );
-        cells[i] = a.cell;
-        rules[i] = a.rule;
-        i += 1;
+    for i in 0..characters.len() {
+        let shown = memory.recall(characters[i]);
+        cells[i] = shown.cell;
+        rules[i] = shown.rule;
     }
 }
 
-// Fills both buffers. Each slot begins with the character U+0000.
-fn fill_by(
-    words: &[u32],
-    order: &[u32],
-    count: usize,
-    characters: &[u32],
-    cells: &mut [u8],
-    rules: &mut [u8],
-)
-    requires { Ordered words.now count order.now × (length characters.now ≤ length cells.old) × (length characters.now ≤ length rules.old) }
-    ensures cells { cells.new ≡ over (map (shown_cell words.now count) characters.now) cells.old }
-    ensures rules { rules.new ≡ over (map (shown_rule words.now count) characters.now) rules.old }
+// Fills both buffers by an order.
+fn fill_by(in_order: &InOrder<'_>, characters: &[u32], cells: &mut [u8], rules: &mut [u8])
+    requires wide { length characters.now ≤ length cells.old }
+    requires deep { length characters.now ≤ length rules.old }
+    ensures cells { cells.new ≡ over (map (λ c. (lookup (charset_of in_order.now.words.now) (table_of in_order.now.count in_order.now.words.now) c).cell) characters.now) cells.old }
+    ensures rules { rules.new ≡ over (map (λ c. (lookup (charset_of in_order.now.words.now) (table_of in_order.now.count in_order.now.words.now) c).rule) characters.now) rules.old }
 {
-    let mut marks = [0u8; SLOTS];
-    ordered::put_marks(words, count, &mut marks);
-    let last = ordered::last_by(words, order, &marks, count);
-    let a = ordered::answer_by(words, order, &marks, count, last, 0);
-    let mut seen = [0u32; SLOTS];
-    let mut shown = [a.cell; SLOTS];
-    let mut ruled = [a.rule; SLOTS];
-    fill_kept(
-        words, order, &marks, count, last, characters, cells, rules, &mut seen, &mut shown,
-        &mut ruled,
-    );
+    let in_order = *in_order;
+    let mut marks = [0; SLOTS];
+    ordered::put_marks(in_order.words, in_order.count, &mut marks);
+    let finder = Marked {
+        in_order,
+        marks: &marks,
+        limit: in_order.count,
+    };
+    let by = Rules::new(finder, table::charset_of(in_order.words));
+    let mut memory = Memory::new(by);
+    fill_kept(&mut memory, characters, cells, rules);
 }
 
 // The page call by an order: any slices.
@@ -239,23 +196,19 @@ pub fn page_by(
     characters: &[u32],
     cells: &mut [u8],
     rules: &mut [u8],
-) -> Filling
-    ensures { Pages (λ reply. reply) (ordered_plan words.now order.now characters.now (length cells.old) (length rules.old)) characters.now cells.old rules.old (filling_reply result) cells.new rules.new }
+) -> Result<(), Refused>
+    ensures { Pages (λ reply. reply) (ordered_plan words.now order.now characters.now (length cells.old) (length rules.old)) characters.now cells.old rules.old (reply_of result) cells.new rules.new }
 {
-    if cells.len() < characters.len() {
-        return Filling::Refused(Refusal::ShortSlice, 0);
+    if cells.len() < characters.len() || rules.len() < characters.len() {
+        return Err(Refusal::ShortSlice.into());
     }
-    if rules.len() < characters.len() {
-        return Filling::Refused(Refusal::ShortSlice, 0);
+    let in_order = ordered::test_both(words, order)?;
+    if let Some(place) = lookup::first_no_scalar(characters) {
+        return Err(Refused {
+            refusal: Refusal::NotScalar,
+            place,
+        });
     }
-    match ordered::test_both(words, order) {
-        Tested::Refused(refusal, place) => Filling::Refused(refusal, place),
-        Tested::InOrder(count) => match lookup::first_no_scalar(characters) {
-            NoScalar::At(i) => Filling::Refused(Refusal::NotScalar, i),
-            NoScalar::Nowhere => {
-                fill_by(words, order, count, characters, cells, rules);
-                Filling::Filled
-            }
-        },
-    }
+    fill_by(&in_order, characters, cells, rules);
+    Ok(())
 }

@@ -1,15 +1,14 @@
-use borrow.Author.Rules.{rules}
-use mathlib.Core.Path.{refl}
-use Rattle.rules.proofs.Choices.{by_last}
+use Rattle.std.proofs.Common.{rules, refl}
+use Rattle.pairs.specs.Words.{table_of}
 use Rattle.ordered.specs.Internal.{slots}
-use Rattle.ordered.proofs.Finds.{ready_everywhere}
+use Rattle.ordered.proofs.Finds.{marked_everywhere}
+use Rattle.by_order.proofs.Calls.{by_own}
 use Rattle.by_order.proofs.answer_in.Goals as goal
 
-pub last_by-last-requires : goal.last_by-last-requires
-last_by-last-requires c = ready_everywhere _ _ _ slots (search rules) refl
-
-pub answer_by-requires : goal.answer_by-requires
-answer_by-requires c = ready_everywhere _ _ _ slots (search rules) refl
+pub invariant_of-finder : goal.invariant_of-finder
+invariant_of-finder c = record { marked = marked_everywhere _ _ slots refl; within = search rules }
 
 pub returns : goal.returns
-returns c = search by_last
+returns c =
+    let o = c.args.in_order.now in
+    by_own o.words.now (table_of o.count o.words.now) c.charset_of.ensures c.args.c (rw c.new-by.ensures at c.answer_of.ensures)

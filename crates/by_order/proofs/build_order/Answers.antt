@@ -1,19 +1,37 @@
-use native.Mathlib.Omega.{arith}
-use Rattle.table.proofs.Lent.{lent_fits}
-use Rattle.by_order.proofs.Calls.{few, distinct, builds_few, builds_short, builds_fault, builds_order}
+use Rattle.std.proofs.Common.{arith}
+use Rattle.std.proofs.lemmas.Result.{err_from_is_err_and}
+use Rattle.by_order.proofs.Calls.{few, distinct, builds_few, builds_refused, builds_order}
 use Rattle.by_order.proofs.build_order.Goals as goal
 
 pub returns-then-order-lt-DEFINITION_LIMIT : goal.returns-then-order-lt-DEFINITION_LIMIT
-returns-then-order-lt-DEFINITION_LIMIT c = search builds_few
+returns-then-order-lt-DEFINITION_LIMIT c = rw c.into.ensures (builds_few _ _ c.if-order-lt-DEFINITION_LIMIT.true)
 
-pub returns-then-words-lt-TABLE_WORDS : goal.returns-then-words-lt-TABLE_WORDS
-returns-then-words-lt-TABLE_WORDS c = search builds_short
+pub returns-in_err-count : goal.returns-in_err-count
+returns-in_err-count c =
+    let p = err_from_is_err_and c.from_residual.result c.from_residual.ensures.1 in
+    rw (p.1, p.2) (builds_refused _ _ c.if-order-lt-DEFINITION_LIMIT.false _ c.in_err-count.ensures.definitions)
 
-pub put_in_order-requires : goal.put_in_order-requires
-put_in_order-requires c = let long = c.if-words-lt-TABLE_WORDS.false in let p = c.check_table.ensures in let q = c.in-Sound.is in (lent_fits _ _ long p q, few _ _ long p q, omega (arith, few _ _ long p q), distinct _ _ long p q)
+-- what is known of the table that was lent, at the words that were passed
+pub put_in_order-requires-clause-few : goal.put_in_order-requires-clause-few
+put_in_order-requires-clause-few c =
+    let lent = c.in_ok-count.field-0 in
+    let same = c.in_ok-count.ensures.words in
+    few _ _ (rw same at lent.fits) (rw same at c.in_ok-count.ensures.definitions)
 
-pub returns-in-FaultAt : goal.returns-in-FaultAt
-returns-in-FaultAt c = search builds_fault
+pub put_in_order-requires-clause-room : goal.put_in_order-requires-clause-room
+put_in_order-requires-clause-room c =
+    let lent = c.in_ok-count.field-0 in
+    let same = c.in_ok-count.ensures.words in
+    omega (arith, few _ _ (rw same at lent.fits) (rw same at c.in_ok-count.ensures.definitions))
 
-pub returns-in-Sound : goal.returns-in-Sound
-returns-in-Sound c = search builds_order
+pub put_in_order-requires-clause-distinct : goal.put_in_order-requires-clause-distinct
+put_in_order-requires-clause-distinct c =
+    let lent = c.in_ok-count.field-0 in
+    let same = c.in_ok-count.ensures.words in
+    distinct _ _ (rw same at lent.fits) (rw same at c.in_ok-count.ensures.definitions)
+
+pub returns : goal.returns
+returns c =
+    let lent = c.in_ok-count.field-0 in
+    let same = c.in_ok-count.ensures.words in
+    builds_order _ _ c.if-order-lt-DEFINITION_LIMIT.false _ (rw same at lent.fits) (rw same at c.in_ok-count.ensures.definitions) c.put_in_order.ensures

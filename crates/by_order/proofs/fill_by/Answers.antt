@@ -1,15 +1,13 @@
-use borrow.Author.Rules.{rules}
-use mathlib.Core.Path.{refl}
-use Rattle.ordered.specs.Internal.{slots}
-use Rattle.ordered.proofs.Finds.{ready_marked}
-use Rattle.by_order.proofs.Kept.{kept_first}
+use Rattle.pairs.specs.Words.{table_of}
+use Rattle.by_order.proofs.Calls.{own_cells, own_rules}
 use Rattle.by_order.proofs.fill_by.Goals as goal
 
-pub last_by-last-requires : goal.last_by-last-requires
-last_by-last-requires c = search ready_marked
+pub returns-clause-cells : goal.returns-clause-cells
+returns-clause-cells c =
+    let o = c.args.in_order.now in
+    own_cells o.words.now (table_of o.count o.words.now) c.charset_of.ensures c.args.characters.now c.args.cells.now (rw (c.new-memory.ensures, c.new-by.ensures) at c.fill_kept.ensures.cells)
 
-pub answer_by-a-requires : goal.answer_by-a-requires
-answer_by-a-requires c = search ready_marked
-
-pub fill_kept-requires : goal.fill_kept-requires
-fill_kept-requires c = let last = c.last_by-last.ensures in let first = c.answer_by-a.ensures in (search ready_marked, last, search rules, search rules, kept_first _ _ _ 0 _ last first slots refl)
+pub returns-clause-rules : goal.returns-clause-rules
+returns-clause-rules c =
+    let o = c.args.in_order.now in
+    own_rules o.words.now (table_of o.count o.words.now) c.charset_of.ensures c.args.characters.now c.args.rules.now (rw (c.new-memory.ensures, c.new-by.ensures) at c.fill_kept.ensures.rules)

@@ -1,30 +1,13 @@
-use borrow.Author.Rules.{rules}
-use mathlib.Core.Path.{refl}
-use Rattle.lookup.proofs.Buffers.{filled_more, filled_all}
+use Rattle.std.proofs.Common.{◌∙◌, ap, rules}
+use Rattle.lookup.proofs.Buffers.{filled_more}
+use Rattle.by_order.specs.declared.Shown.{Shown}
 use Rattle.by_order.proofs.fill_kept.Goals as goal
 
-pub loop-i-init : goal.loop-i-init
-loop-i-init c = (search rules, search rules, search rules, search rules, search rules, search rules, search rules, search rules, refl, refl)
-
-pub overflow_add-i : goal.overflow_add-i
-overflow_add-i c = search (c.loop-i.invariant.1, c.loop-i-test.true, rules)
-
 pub loop-i-preserved : goal.loop-i-preserved
-loop-i-preserved c = (
-  search rules,
-  search rules,
-  search rules,
-  search rules,
-  search rules,
-  search rules,
-  search rules,
-  search rules,
-  search filled_more,
-  filled_more _ _ _ _ 0 c.loop-i-test.true (search rules) c.loop-i.invariant.9 c.recall-a.ensures.shows.1,
-)
-
-pub returns-clause-cells : goal.returns-clause-cells
-returns-clause-cells c = search filled_all
-
-pub returns-clause-rules : goal.returns-clause-rules
-returns-clause-rules c = search filled_all
+loop-i-preserved g c =
+    let shows = rw c.loop-i.invariant.same at c.recall-shown.ensures.shows in
+    record {
+      same = c.recall-shown.ensures.same ∙ c.loop-i.invariant.same;
+      cells = filled_more _ _ _ _ 0 c.loop-i-test.true (search rules) c.loop-i.invariant.cells (ap (λ (s : Shown). s.cell) shows);
+      rules = filled_more _ _ _ _ 0 c.loop-i-test.true (search rules) c.loop-i.invariant.rules (ap (λ (s : Shown). s.rule) shows);
+    }

@@ -1,24 +1,21 @@
-use Rattle.basics.proofs.Tests.{chosen}
+use Rattle.std.proofs.lemmas.Result.{err_from_is_err_and}
 use Rattle.lookup.proofs.WholeWalks.{lent_links}
-use Rattle.by_order.proofs.Calls.{in_order, look_refused, no_links, look_plain, look_passed}
+use Rattle.by_order.proofs.Calls.{look_refused, look_no_scalar, look_plain, look_answered}
 use Rattle.by_order.proofs.look_up_by.Goals as goal
 
-pub answer_in-requires : goal.answer_in-requires
-answer_in-requires c = (in_order _ _ c.test_both.ensures _ c.in-InOrder.is).order
+pub returns-in_err-in_order-clause-answer : goal.returns-in_err-in_order-clause-answer
+returns-in_err-in_order-clause-answer c =
+    let p = err_from_is_err_and c.from_residual.result c.from_residual.ensures.1 in
+    rw (p.1, p.2) (look_refused _ _ c.in_err-in_order.ensures.tests _)
 
-pub returns-then-is_scalar : goal.returns-then-is_scalar
-returns-then-is_scalar c =
-    let passed = in_order _ _ c.test_both.ensures _ c.in-InOrder.is in
-    let e = look_plain _ _ _ passed _ (search chosen) in
-    record { answer = look_passed _ _ _ passed _ e; links = lent_links _ _ e }
+pub returns-then-not-is_scalar-clause-answer : goal.returns-then-not-is_scalar-clause-answer
+returns-then-not-is_scalar-clause-answer c =
+    rw c.into.ensures (look_no_scalar _ _ _ c.in_ok-in_order.ensures.tests _ c.if-not-is_scalar.ensures)
 
-pub returns-in-Refused-clause-answer : goal.returns-in-Refused-clause-answer
-returns-in-Refused-clause-answer c = search look_refused
+pub returns-clause-answer : goal.returns-clause-answer
+returns-clause-answer c =
+    look_answered _ _ _ c.in_ok-in_order.ensures.tests _ c.if-not-is_scalar.ensures c.in_ok-in_order.ensures.lent.0 c.answer_in.ensures
 
-pub returns-in-Refused-clause-links : goal.returns-in-Refused-clause-links
-returns-in-Refused-clause-links c = search no_links
-
-pub returns-else-is_scalar : goal.returns-else-is_scalar
-returns-else-is_scalar c =
-    let passed = in_order _ _ c.test_both.ensures _ c.in-InOrder.is in
-    record { answer = look_passed _ _ _ passed _ (look_plain _ _ _ passed _ (search chosen)); links = search no_links }
+pub returns-clause-links : goal.returns-clause-links
+returns-clause-links c =
+    lent_links _ _ (look_plain _ _ _ c.in_ok-in_order.ensures.tests _ c.if-not-is_scalar.ensures c.in_ok-in_order.ensures.lent.0 c.answer_in.ensures)

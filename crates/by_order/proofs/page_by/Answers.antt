@@ -1,23 +1,21 @@
-use borrow.Author.Rules.{rules}
-use Rattle.basics.proofs.Tests.{tests}
-use Rattle.lookup.proofs.Replies.{pages_refused}
-use Rattle.by_order.proofs.Calls.{in_order, page_short, page_refused, page_no_scalar, page_shown}
+use Rattle.std.proofs.Common.{arith}
+use Rattle.std.proofs.lemmas.Result.{err_from_is_err_and}
+use Rattle.by_order.proofs.Calls.{page_short, page_refused, page_no_scalar, page_shown}
 use Rattle.by_order.proofs.page_by.Goals as goal
 
 pub returns-then-cells-characters : goal.returns-then-cells-characters
-returns-then-cells-characters c = pages_refused (page_short _ _ _ _ _ (search tests))
+returns-then-cells-characters c = rw c.into.ensures (page_short _ _ _ _ _ c.then-cells-characters.either)
 
-pub returns-then-rules-characters : goal.returns-then-rules-characters
-returns-then-rules-characters c = pages_refused (page_short _ _ _ _ _ (search tests))
+pub returns-in_err-in_order : goal.returns-in_err-in_order
+returns-in_err-in_order c =
+    let p = err_from_is_err_and c.from_residual.result c.from_residual.ensures.1 in
+    rw (p.1, p.2) (page_refused _ _ c.in_err-in_order.ensures.tests _ _ _ (omega arith) (omega arith))
 
-pub fill_by-requires : goal.fill_by-requires
-fill_by-requires c = ((in_order _ _ c.test_both.ensures _ c.in-InOrder.is).order, search rules, search rules)
+pub returns-in-Some : goal.returns-in-Some
+returns-in-Some c =
+    page_no_scalar _ _ _ c.in_ok-in_order.ensures.tests _ _ _ c.first_no_scalar.ensures (omega arith) (omega arith) _ c.in-Some.is
 
-pub returns-in-Refused : goal.returns-in-Refused
-returns-in-Refused c = pages_refused (search page_refused)
-
-pub returns-in-At : goal.returns-in-At
-returns-in-At c = page_no_scalar _ _ _ (in_order _ _ c.test_both.ensures _ c.in-InOrder.is) _ _ _ _ c.first_no_scalar.ensures c.if-cells-characters.false c.if-rules-characters.false _ c.in-At.is
-
-pub returns-in-Nowhere : goal.returns-in-Nowhere
-returns-in-Nowhere c = page_shown _ _ _ (in_order _ _ c.test_both.ensures _ c.in-InOrder.is) _ _ _ _ c.first_no_scalar.ensures c.if-cells-characters.false c.if-rules-characters.false c.in-Nowhere.is c.fill_by.ensures.cells c.fill_by.ensures.rules
+pub returns : goal.returns
+returns c =
+    page_shown _ _ _ c.in_ok-in_order.ensures.tests _ _ _ c.first_no_scalar.ensures (omega arith) (omega arith) c.in_default.is c.in_ok-in_order.ensures.lent.0
+    c.fill_by.ensures.cells c.fill_by.ensures.rules

@@ -1,16 +1,11 @@
-use borrow.Author.Rules.{rules}
+use Rattle.std.proofs.Common.{rules}
 use Rattle.ordered.proofs.Finds.{place_read}
-use Rattle.by_order.proofs.Calls.{sought_found, sought_none}
 use Rattle.by_order.proofs.seek.Goals as goal
 
-pub offset_bounds-order-place : goal.offset_bounds-order-place
-offset_bounds-order-place c = search (place_read, rules)
+pub offset_bounds-in_order-place : goal.offset_bounds-in_order-place
+offset_bounds-in_order-place c =
+    let at = place_read _ _ _ c.args.in_order.now.ordered _ c.halve-halved.result c.halve-halved.ensures _ c.in-Ok.is in
+    search rules
 
-pub bounds-order-place : goal.bounds-order-place
-bounds-order-place c = search (place_read, rules)
-
-pub returns-then-h : goal.returns-then-h
-returns-then-h c = search sought_found
-
-pub returns : goal.returns
-returns c = search sought_none
+pub bounds-in_order-place : goal.bounds-in_order-place
+bounds-in_order-place c = place_read _ _ _ c.args.in_order.now.ordered _ c.halve-halved.result c.halve-halved.ensures _ c.in-Ok.is

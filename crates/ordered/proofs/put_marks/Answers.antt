@@ -1,12 +1,8 @@
-use borrow.Author.Rules.{rules}
-use Rattle.ordered.proofs.Finds.{none_marked, one_marked, all_marked}
+use Rattle.ordered.proofs.Finds.{none_marked, one_marked}
 use Rattle.ordered.proofs.put_marks.Goals as goal
 
 pub loop-k-init : goal.loop-k-init
-loop-k-init c = (search rules, search rules, search rules, search rules, search none_marked)
+loop-k-init c = search none_marked
 
 pub loop-k-preserved : goal.loop-k-preserved
-loop-k-preserved c = (search rules, search rules, search rules, search rules, search one_marked)
-
-pub returns : goal.returns
-returns c = search all_marked
+loop-k-preserved c = search one_marked

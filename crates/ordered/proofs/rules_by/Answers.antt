@@ -1,8 +1,0 @@
-use Rattle.rules.proofs.Choices.{rule_later, rule_walked}
-use Rattle.ordered.proofs.rules_by.Goals as goal
-
-pub returns-in-Absent : goal.returns-in-Absent
-returns-in-Absent c = search (rule_walked, rule_later)
-
-pub returns-in-Dots : goal.returns-in-Dots
-returns-in-Dots c = search (rule_walked, rule_later)
