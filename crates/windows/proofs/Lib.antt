@@ -1,5 +1,4 @@
+pub mod Lists
 pub mod Outputs
-pub mod Turns
-pub mod Passes
 pub mod Shows
 pub mod OnePerWindow

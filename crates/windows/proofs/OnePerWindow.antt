@@ -15,8 +15,7 @@ use Rattle.definitions.specs.declared.Definition.{Definition}
 use Rattle.definitions.specs.Definitions.{table}
 use Rattle.pairs.specs.Words.{charset_of}
 use Rattle.table.specs.Check.{lent_table}
-use Rattle.lookup.specs.declared.NoScalar.{NoScalar}
-use Rattle.lookup.specs.declared.NoScalar.TheVariants.{Nowhere, At}
+use Rattle.std.specs.Prelude.{Option, None, Some}
 use Rattle.rules.specs.declared.Answer.{Answer}
 use Rattle.rules.specs.Rules.{lookup}
 use Rattle.lookup.specs.Calls.{first_no_scalar, page_plan, page_reply, page_cells, page_rules}
@@ -24,19 +23,18 @@ use Rattle.windows.specs.declared.Window.{Window}
 use Rattle.windows.specs.Windows.{part_of, parts_of, widths, all_within, both_hold, windows_plan}
 use Rattle.windows.specs.OnePerWindow.{Call, called, page_call, followed_by, one_per_window, EqualsOnePerWindow}
 use Rattle.windows.proofs.Outputs.{part_length, over_more, over_whole}
-use Rattle.windows.proofs.Turns.{each_holds}
-use Rattle.windows.proofs.Passes.{not_refused, within_rest}
+use Rattle.windows.proofs.Lists.{each_holds, not_refused, within_rest}
 
 -- ---- a part of a page of scalar values is one
 
-not_at : {i : ℕ} → At i ≡ Nowhere → ⊥
-not_at e = let z : ◌≡◌ {A = ℕ} 0 1 = cc in omega arith
+not_some : {i : ℕ} → Some i ≡ None → ⊥
+not_some e = let z : ◌≡◌ {A = ℕ} 0 1 = cc in omega arith
 
-scalar_first : (c : ℕ) (cs : List ℕ) (i : ℕ) → first_no_scalar (c ∷ cs) i ≡ Nowhere → (is_scalar c ≡ true) × (first_no_scalar cs (i + 1) ≡ Nowhere)
+scalar_first : (c : ℕ) (cs : List ℕ) (i : ℕ) → first_no_scalar (c ∷ cs) i ≡ None → (is_scalar c ≡ true) × (first_no_scalar cs (i + 1) ≡ None)
 unfolding first_no_scalar
-scalar_first c cs i o = by_cases (is_scalar c) (λ e. (e, rw e at o)) (λ e. absurd (not_at (rw e at o)))
+scalar_first c cs i o = by_cases (is_scalar c) (λ e. (e, rw e at o)) (λ e. absurd (not_some (rw e at o)))
 
-taken : (k : ℕ) (cs : List ℕ) (i j : ℕ) → first_no_scalar cs i ≡ Nowhere → first_no_scalar (take k cs) j ≡ Nowhere
+taken : (k : ℕ) (cs : List ℕ) (i j : ℕ) → first_no_scalar cs i ≡ None → first_no_scalar (take k cs) j ≡ None
 unfolding first_no_scalar
 taken zero cs i j o = refl
 taken (suc k) [] i j o = refl
@@ -45,7 +43,7 @@ taken (suc k) (c ∷ cs) i j o =
     rw f.0 (taken k cs (i + 1) (j + 1) f.1)
 
 -- the first k of what follows the first s
-part_scalars : (s k : ℕ) (cs : List ℕ) (i : ℕ) → first_no_scalar cs i ≡ Nowhere → first_no_scalar (take k (drop s cs)) 0 ≡ Nowhere
+part_scalars : (s k : ℕ) (cs : List ℕ) (i : ℕ) → first_no_scalar cs i ≡ None → first_no_scalar (take k (drop s cs)) 0 ≡ None
 part_scalars zero k cs i o = taken k cs i 0 o
 part_scalars (suc s) k [] i o = taken k [] i 0 o
 part_scalars (suc s) k (c ∷ cs) i o = part_scalars s k cs (i + 1) (scalar_first c cs i o).1
@@ -53,14 +51,14 @@ part_scalars (suc s) k (c ∷ cs) i o = part_scalars s k cs (i + 1) (scalar_firs
 -- ---- page calls one after another
 
 -- what is known of an accepted call
-module _ (words page : List ℕ) (ds : List Definition) (sound : lent_table words ≡ answered ds) (scalars : first_no_scalar page 0 ≡ Nowhere) where
+module _ (words page : List ℕ) (ds : List Definition) (sound : lent_table words ≡ answered ds) (scalars : first_no_scalar page 0 ≡ None) where
   abbrev cell_of : ℕ → ℕ
   cell_of c = (lookup (charset_of words) (table ds) c).cell
 
   abbrev rule_of : ℕ → ℕ
   rule_of c = (lookup (charset_of words) (table ds) c).rule
 
-  planned : (part : List ℕ) (cells rules : ℕ) → length part ≤ cells → length part ≤ rules → first_no_scalar part 0 ≡ Nowhere → page_plan words part cells rules ≡ answered (lookup (charset_of words) (table ds))
+  planned : (part : List ℕ) (cells rules : ℕ) → length part ≤ cells → length part ≤ rules → first_no_scalar part 0 ≡ None → page_plan words part cells rules ≡ answered (lookup (charset_of words) (table ds))
   unfolding page_plan
   planned part cells rules h g e = rw (le-ltb cells (length part) h, le-ltb rules (length part) g, sound, e)
 
@@ -107,13 +105,13 @@ module _ (ws : List Window) (words page cells rules : List ℕ) where
   not_accepted : {number place : ℕ} → plan ≡ refused number place → page_reply plan ≡ answered tt → Equal
   not_accepted e o = absurd (not_refused (rw e at o))
 
-  by_scalars : (ds : List Definition) (s : NoScalar) → lent_table words ≡ answered ds → all_within (length page) ws 0 ≡ answered tt → both_hold (widths ws) (length cells) (length rules) ≡ true
+  by_scalars : (ds : List Definition) (s : Option ℕ) → lent_table words ≡ answered ds → all_within (length page) ws 0 ≡ answered tt → both_hold (widths ws) (length cells) (length rules) ≡ true
       → first_no_scalar page 0 ≡ s → page_reply plan ≡ answered tt → Equal
   unfolding windows_plan
-  by_scalars ds Nowhere sound within roomy scalars o =
+  by_scalars ds None sound within roomy scalars o =
       let holds = each_holds (widths ws) (length cells) (length rules) roomy in
       rw (sound, within, roomy, scalars) (sym (one_by_one words page ds sound scalars ws 0 cells rules within holds.0 holds.1))
-  by_scalars ds (At i) sound within roomy scalars o = not_accepted {number = 14} {place = i} (rw (sound, within, roomy, scalars)) o
+  by_scalars ds (Some i) sound within roomy scalars o = not_accepted {number = 14} {place = i} (rw (sound, within, roomy, scalars)) o
 
   by_windows : (ds : List Definition) (r : Reply (Unit {0})) → lent_table words ≡ answered ds → all_within (length page) ws 0 ≡ r → page_reply plan ≡ answered tt → Equal
   unfolding windows_plan

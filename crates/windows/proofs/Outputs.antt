@@ -1,14 +1,16 @@
 -- Outputs that are written part by part.
 use Prim.Native.Nat.{ℕ, ◌+◌, ◌-◌, ◌≤◌}
-use mathlib.Core.Path.{◌≡◌, sym, ap, ◌∙◌}
-use mathlib.Core.List.{List, [], ◌++◌, map, append-nil, append_assoc, map-append}
+use mathlib.Core.Path.{◌≡◌, refl, sym, ap, ◌∙◌}
+use mathlib.Core.List.{List, [], ◌∷◌, ◌++◌, map, append-nil, append_assoc, map-append}
 use native.Mathlib.Omega.{arith}
 use lib.ListN.{length, take, drop, length-append, length-drop, length-map, take-append-drop, drop_of_length-le}
 use lib.Seq.{length-take-le, take-append_seam, drop-append_seam, drop-drop}
+use Rattle.basics.specs.Refusals.{answered}
 use Rattle.basics.specs.Buffers.{over}
 use Rattle.windows.specs.declared.Window.{Window}
-use Rattle.windows.specs.Windows.{part_of}
-use Rattle.windows.specs.Internal.{over_at}
+use Rattle.windows.specs.Windows.{part_of, parts_of, widths, all_within}
+use Rattle.windows.specs.Internal.{over_at, Filled}
+use Rattle.windows.proofs.Lists.{within_rest}
 
 -- a window within the page is as long as it is wide
 pub part_length : (page : List ℕ) (w : Window) → w.start + w.width ≤ length page → length (part_of page w) ≡ w.width
@@ -78,3 +80,42 @@ part_put f start at k end to page old h g p q e =
     let long : length new ≡ k = length-map (take k (drop start page)) f ∙ length-take-le k (drop start page) (simp length-drop (omega arith)) in
     let room : length (take k (drop at old)) ≤ length new = omega (arith, long, length-take-le k (drop at old) (simp length-drop (omega arith))) in
     rw (e, j, i, over_whole new (take k (drop at old)) room, long)
+
+-- ---- window by window
+
+module _ (f : ℕ → ℕ) (page : List ℕ) (ws : List Window) (old : List ℕ) where
+  pub filled_none : all_within (length page) ws 0 ≡ answered tt → widths ws ≤ length old → Filled f page ws old 0 0 old
+  filled_none within h = record { within = within; room = omega arith; rest = refl }
+
+  module _ {i at : ℕ} {now : List ℕ} (inv : Filled f page ws old i at now) where
+    pub filled_all : drop i ws ≡ [] → now ≡ over (map f (parts_of page ws)) old
+    unfolding parts_of
+    filled_all none = sym (over_none at now) ∙ rw none at inv.rest
+
+    module _ {w : Window} (next : drop i ws ≡ w ∷ drop (i + 1) ws) where
+      within : (w.start + w.width ≤ length page) × (all_within (length page) (drop (i + 1) ws) (i + 1) ≡ answered tt)
+      within = within_rest (length page) w (drop (i + 1) ws) i (rw next at inv.within)
+
+      pub in_page : w.start + w.width ≤ length page
+      in_page = within.0
+
+      left : widths (drop i ws) ≡ w.width + widths (drop (i + 1) ws)
+      unfolding widths
+      left = rw next
+
+      pub in_output : at + w.width ≤ length now
+      in_output = omega (arith, inv.room, left)
+
+      pub filled_more : {filled : List ℕ} → filled ≡ over (map f (take (w.start + w.width - w.start) (drop w.start page))) (take (at + w.width - at) (drop at now))
+          → Filled f page ws old (i + 1) (at + w.width) (take at now ++ (filled ++ drop (at + w.width - at) (drop at now)))
+      unfolding parts_of
+      filled_more e =
+          let part = part_of page w in
+          let others = parts_of page (drop (i + 1) ws) in
+          let long : length part ≡ w.width = part_length page w in_page in
+          let put = part_put f w.start at w.width (w.start + w.width) (at + w.width) page now in_page in_output refl refl e in
+          rw put (record {
+            within = within.1;
+            room = omega (arith, inv.room, left, mapped_length f at w.width part others now long in_output);
+            rest = mapped_more f at w.width part others now long in_output ∙ rw next at inv.rest;
+          })

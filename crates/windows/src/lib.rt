@@ -1,16 +1,19 @@
 // The page call for many windows: their cells and rules, one after another.
-// `pass` and `show` go through the slice of windows; all else works on one window by value.
 #![tactic(auto)]
 
-ghost use Rattle.std.specs.Prelude.{◌≡◌, ◌+◌, leb, length};
-ghost use Rattle.basics.specs.Refusals.{filling_reply};
-ghost use Rattle.windows.specs.Windows.{part_of, both_hold, PagesWindows, windows_of};
-ghost use Rattle.windows.specs.Internal.{state, measured_of, wide_of, has_room, Room, over_at, cells_for, rules_for, written_of, turn_of, pass_of, begin_of, decide_of, answer_of};
+ghost use Rattle.std.specs.Prelude.{◌≡◌, ◌≤◌, map, length, leb};
+ghost use Rattle.basics.specs.Choice.{if_some};
+ghost use Rattle.basics.specs.Refusals.{answered, refused, reply_of};
+ghost use Rattle.basics.specs.Buffers.{over};
+ghost use Rattle.definitions.specs.Definitions.{table};
+ghost use Rattle.rules.specs.Internal.{lookup_by};
+ghost use Rattle.windows.specs.declared.Window.{Window};
+ghost use Rattle.windows.specs.Windows.{parts_of, widths, is_within, all_within, PagesWindows, windows_of};
+ghost use Rattle.windows.specs.Internal.{pair_window};
 
-use basics::{Filling, Refusal};
-use lookup::NoScalar;
-use rules::LastCells;
-use table::{Checked, TABLE_WORDS};
+use basics::{Refusal, Refused};
+use pairs::Finder;
+use rules::Rules;
 
 // A start and a width on the page.
 #[repr(C)]
@@ -20,237 +23,112 @@ pub struct Window {
     pub width: usize,
 }
 
-// A sound table: the count of its definitions, and its cells of rules 7 and 8, which are asked once for all windows.
-#[derive(Clone, Copy)]
-struct Prepared {
-    count: usize,
-    last: LastCells,
+// What stands for a window in a list: a window, or two numbers.
+trait AsWindow {
+    ghost window: { Self → Window };
+
+    fn window(&self) -> Window
+        ensures { result ≡ window self.now };
 }
 
-// How far a pass over the windows is.
-#[derive(Clone, Copy)]
-enum Run {
-    // The windows so far have so many characters, and both outputs hold them.
-    Measuring(Prepared, usize),
-    // An output does not hold the windows so far.
-    Wide,
-    // So many bytes of each output are written.
-    Writing(Prepared, usize),
-    // A refusal with its place.
-    Refused(Refusal, usize),
-}
+impl AsWindow for Window {
+    ghost window = { λ w. w };
 
-// Whether `start` and `width` together are at most `length`. Their sum may pass 2^64, so it is not formed.
-fn fits(start: usize, width: usize, length: usize) -> bool
-    ensures { result ≡ leb (start + width) length }
-{
-    if length < start {
-        return false;
+    fn window(&self) -> Window {
+        *self
     }
-    width <= length - start
 }
 
-// Whether both outputs, of so many bytes, hold `width` more behind the first `at`.
-fn both_fit(at: usize, width: usize, cells: usize, rules: usize) -> bool
-    ensures { result ≡ both_hold (at + width) cells rules }
-{
-    if fits(at, width, cells) {
-        return fits(at, width, rules);
+impl AsWindow for [usize; 2] {
+    ghost window = { pair_window };
+
+    fn window(&self) -> Window {
+        let [start, width] = *self;
+        Window { start, width }
     }
-    false
 }
 
-// One window of the measuring pass, for a page and outputs of so many.
-fn measured(
-    w: Window,
-    i: usize,
-    page: usize,
-    cells: usize,
-    rules: usize,
-    table: Prepared,
-    total: usize,
-) -> Run
-    ensures { result ≡ measured_of page cells rules i w table total }
+// Whether a window lies within a page of so many characters. Its start plus its width may pass 2^64, so the sum is not
+// formed.
+fn is_within(w: Window, page: usize) -> bool
+    ensures { result ≡ is_within page w }
 {
-    if fits(w.start, w.width, page) {
-        if both_fit(total, w.width, cells, rules) {
-            return Run::Measuring(table, total + w.width);
-        }
-        return Run::Wide;
-    }
-    Run::Refused(Refusal::BeyondPage, i)
+    w.start <= page && w.width <= page - w.start
 }
 
-// The same where the windows so far are too wide already: a later one beyond the page is still to be told.
-fn still_wide(w: Window, i: usize, page: usize) -> Run
-    ensures { result ≡ wide_of page i w }
+// The first window that does not lie within a page of so many characters.
+fn first_beyond<W: AsWindow>(windows: &[W], page: usize) -> Option<usize>
+    ensures { if_some result (answered tt) (λ i. refused 19 i) ≡ all_within page (map W.window windows.now) 0 }
 {
-    if fits(w.start, w.width, page) {
-        return Run::Wide;
-    }
-    Run::Refused(Refusal::BeyondPage, i)
+    windows.iter().position(|w| !is_within(w.window(), page))
 }
 
-// Whether a window can be written: it lies within the page, the table and both outputs, of so many. After the measuring
-// pass it always does.
-fn has_room(
-    w: Window,
-    words: usize,
-    page: usize,
-    cells: usize,
-    rules: usize,
-    count: usize,
-    at: usize,
-) -> bool
-    ensures { result ≡ has_room words page cells rules w count at }
+// Whether so many bytes hold all windows together. Their widths may come to more than 2^64, so the sum is not formed.
+fn fit<W: AsWindow>(windows: &[W], room: usize) -> bool
+    ensures { result ≡ leb (widths (map W.window windows.now)) room }
 {
-    if fits(w.start, w.width, page) {
-        if both_fit(at, w.width, cells, rules) {
-            return fits(count, count, words);
-        }
-        return false;
+    let mut left = room;
+    for w in windows {
+        let Some(rest) = left.checked_sub(w.window().width) else {
+            return false;
+        };
+        left = rest;
     }
-    false
+    true
 }
 
-// Writes a window's cells and rules, from the place `at` of both outputs on; answers the place behind them.
-fn put(
-    w: Window,
+// Fills both outputs, one window after another.
+fn fill<W: AsWindow, T: Finder>(
+    by: &Rules<T>,
+    windows: &[W],
+    page: &[u32],
+    cells: &mut [u8],
+    rules: &mut [u8],
+)
+    requires within { all_within (length page.now) (map W.window windows.now) 0 ≡ answered tt }
+    requires room { (widths (map W.window windows.now) ≤ length cells.old) × (widths (map W.window windows.now) ≤ length rules.old) }
+    ensures cells { cells.new ≡ over (map (λ c. (lookup_by by.now.charset (table (T.definitions by.now.finder)) by.now.last c).cell) (parts_of page.now (map W.window windows.now))) cells.old }
+    ensures rules { rules.new ≡ over (map (λ c. (lookup_by by.now.charset (table (T.definitions by.now.finder)) by.now.last c).rule) (parts_of page.now (map W.window windows.now))) rules.old }
+{
+    let mut at = 0;
+    for w in windows {
+        let w = w.window();
+        let part = &page[w.start..w.start + w.width];
+        let end = at + w.width;
+        lookup::fill(by, part, &mut cells[at..end], &mut rules[at..end]);
+        at = end;
+    }
+}
+
+// The call for any list of what stands for windows.
+fn show_listed<W: AsWindow>(
+    windows: &[W],
     words: &[u32],
     page: &[u32],
     cells: &mut [u8],
     rules: &mut [u8],
-    table: Prepared,
-    at: usize,
-) -> usize
-    requires { Room (length words.now) (length page.now) (length cells.old) (length rules.old) w table.count at }
-    ensures place { result ≡ at + w.width }
-    ensures cells { cells.new ≡ over_at at (cells_for table words.now (part_of page.now w)) cells.old }
-    ensures rules { rules.new ≡ over_at at (rules_for table words.now (part_of page.now w)) rules.old }
+) -> Result<(), Refused>
+    ensures { PagesWindows (λ reply. reply) (map W.window windows.now) words.now page.now cells.old rules.old (reply_of result) cells.new rules.new }
 {
-    let start = w.start;
-    let end = start + w.width;
-    let to = at + w.width;
-    lookup::fill(
-        words,
-        table.count,
-        table.last,
-        &page[start..end],
-        &mut cells[at..to],
-        &mut rules[at..to],
-    );
-    to
-}
-
-// One window of the writing pass.
-fn write(
-    w: Window,
-    words: &[u32],
-    page: &[u32],
-    cells: &mut [u8],
-    rules: &mut [u8],
-    table: Prepared,
-    at: usize,
-) -> Run
-    ensures { state result cells.new rules.new ≡ written_of words.now page.now w table at cells.old rules.old }
-{
-    if has_room(
-        w,
-        words.len(),
-        page.len(),
-        cells.len(),
-        rules.len(),
-        table.count,
-        at,
-    ) {
-        let to = put(w, words, page, cells, rules, table, at);
-        return Run::Writing(table, to);
+    let pairs = table::lent_table(words)?;
+    if let Some(number) = first_beyond(windows, page.len()) {
+        return Err(Refused {
+            refusal: Refusal::BeyondPage,
+            place: number,
+        });
     }
-    Run::Writing(table, at)
-}
-
-// One window of a pass.
-fn turn(
-    w: Window,
-    i: usize,
-    words: &[u32],
-    page: &[u32],
-    cells: &mut [u8],
-    rules: &mut [u8],
-    run: Run,
-) -> Run
-    ensures { state result cells.new rules.new ≡ turn_of words.now page.now i w (state run cells.old rules.old) }
-{
-    match run {
-        Run::Measuring(table, total) => {
-            measured(w, i, page.len(), cells.len(), rules.len(), table, total)
-        }
-        Run::Wide => still_wide(w, i, page.len()),
-        Run::Writing(table, at) => write(w, words, page, cells, rules, table, at),
-        Run::Refused(_, _) => run,
+    if !fit(windows, cells.len().min(rules.len())) {
+        return Err(Refusal::ShortSlice.into());
     }
-}
-
-// One pass over all windows.
-fn pass(
-    windows: &[Window],
-    words: &[u32],
-    page: &[u32],
-    cells: &mut [u8],
-    rules: &mut [u8],
-    mut run: Run,
-) -> Run
-    ensures { state result cells.new rules.new ≡ pass_of words.now page.now 0 windows.now (state run cells.old rules.old) }
-{
-    let mut i = 0;
-    while i < windows.len() {
-        run = turn(windows[i], i, words, page, &mut *cells, &mut *rules, run);
-        i += 1;
+    if let Some(place) = lookup::first_no_scalar(page) {
+        return Err(Refused {
+            refusal: Refusal::NotScalar,
+            place,
+        });
     }
-    run
-}
-
-// Before the first pass: 2 and 15, of the table.
-fn begin(words: &[u32]) -> Run
-    ensures { result ≡ begin_of words.now }
-{
-    if words.len() < TABLE_WORDS {
-        return Run::Refused(Refusal::ShortSlice, 0);
-    }
-    match table::check_table(words) {
-        Checked::FaultAt(pair) => Run::Refused(Refusal::NotTable, pair),
-        Checked::Sound(count) => {
-            let last = rules::last_cells(words, count);
-            Run::Measuring(Prepared { count, last }, 0)
-        }
-    }
-}
-
-// Between the passes: 2 of the outputs, then 14 over the whole page.
-fn decide(run: Run, page: &[u32]) -> Run
-    ensures { result ≡ decide_of run page.now }
-{
-    match run {
-        Run::Measuring(table, _) => match lookup::first_no_scalar(page) {
-            NoScalar::Nowhere => Run::Writing(table, 0),
-            NoScalar::At(i) => Run::Refused(Refusal::NotScalar, i),
-        },
-        Run::Wide => Run::Refused(Refusal::ShortSlice, 0),
-        Run::Writing(_, _) => run,
-        Run::Refused(_, _) => run,
-    }
-}
-
-// After the second pass: what it has come to.
-fn answer(run: Run) -> Filling
-    ensures { result ≡ answer_of run }
-{
-    match run {
-        Run::Measuring(_, _) => Filling::Filled,
-        Run::Wide => Filling::Filled,
-        Run::Writing(_, _) => Filling::Filled,
-        Run::Refused(refusal, place) => Filling::Refused(refusal, place),
-    }
+    let by = Rules::new(pairs, table::charset_of(words));
+    fill(&by, windows, page, cells, rules);
+    Ok(())
 }
 
 // The page call for many windows: any slices.
@@ -260,37 +138,10 @@ pub fn show(
     page: &[u32],
     cells: &mut [u8],
     rules: &mut [u8],
-) -> Filling
-    ensures { PagesWindows (λ reply. reply) windows.now words.now page.now cells.old rules.old (filling_reply result) cells.new rules.new }
+) -> Result<(), Refused>
+    ensures { PagesWindows (λ reply. reply) windows.now words.now page.now cells.old rules.old (reply_of result) cells.new rules.new }
 {
-    let first = begin(words);
-    let found = pass(windows, words, page, &mut *cells, &mut *rules, first);
-    let second = decide(found, page);
-    let done = pass(windows, words, page, cells, rules, second);
-    answer(done)
-}
-
-// One pass over windows of two numbers each.
-fn pass_numbers(
-    numbers: &[usize],
-    words: &[u32],
-    page: &[u32],
-    cells: &mut [u8],
-    rules: &mut [u8],
-    mut run: Run,
-) -> Run
-    ensures { state result cells.new rules.new ≡ pass_of words.now page.now 0 (windows_of numbers.now) (state run cells.old rules.old) }
-{
-    let mut i = 0;
-    while i < numbers.len() / 2 {
-        let w = Window {
-            start: numbers[2 * i],
-            width: numbers[2 * i + 1],
-        };
-        run = turn(w, i, words, page, &mut *cells, &mut *rules, run);
-        i += 1;
-    }
-    run
+    show_listed(windows, words, page, cells, rules)
 }
 
 // The same call for callers that have no slice of structs: two numbers a window, start and width.
@@ -300,10 +151,8 @@ pub fn show_numbers(
     page: &[u32],
     cells: &mut [u8],
     rules: &mut [u8],
-) -> Filling
-    ensures { PagesWindows (λ reply. reply) (windows_of numbers.now) words.now page.now cells.old rules.old (filling_reply result) cells.new rules.new }
+) -> Result<(), Refused>
+    ensures { PagesWindows (λ reply. reply) (windows_of numbers.now) words.now page.now cells.old rules.old (reply_of result) cells.new rules.new }
 {
-    let found = pass_numbers(numbers, words, page, &mut *cells, &mut *rules, begin(words));
-    let done = pass_numbers(numbers, words, page, cells, rules, decide(found, page));
-    answer(done)
+    show_listed(numbers.as_chunks::<2>().0, words, page, cells, rules)
 }

@@ -1,5 +1,5 @@
-use Rattle.windows.proofs.Shows.{shows_all}
+use Rattle.windows.proofs.Lists.{numbers_pairs}
 use Rattle.windows.proofs.show_numbers.Goals as goal
 
 pub returns : goal.returns
-returns c = search shows_all
+returns c = rw (c.as_chunks.ensures.front, numbers_pairs) at c.show_listed.ensures

@@ -1,5 +1,0 @@
-use Rattle.windows.proofs.Shows.{shows_all}
-use Rattle.windows.proofs.show.Goals as goal
-
-pub returns : goal.returns
-returns c = search shows_all
