@@ -1,28 +1,26 @@
 -- What is written for all 256 cells or bytes: each element, the whole buffer, and the calls' answers.
 use Prim.Native.Nat.{ℕ, zero, suc, ◌+◌, ◌^◌, ◌≤◌, ◌<◌}
-use mathlib.Core.Path.{◌≡◌, refl, ap, ◌∙◌}
+use mathlib.Core.Path.{◌≡◌, refl, sym, ap, ◌∙◌}
 use mathlib.Core.List.{List, [], ◌∷◌, map}
 use native.Mathlib.Omega.{arith}
-use lib.ListN.{length, get_or, set, length-replicate, get_or-replicate}
+use lib.Seq.{length-take-le}
+use lib.ListN.{length, take, get_or, set, length-replicate, get_or-replicate}
 use borrow.Author.Tests.{lt-ltb, le-ltb}
-use Rattle.basics.specs.Refusals.{Reply, answered, refused, filling_reply}
-use Rattle.basics.specs.declared.Filling.{Filling}
-use Rattle.basics.specs.declared.Maybe.{Maybe}
+use Rattle.std.specs.Prelude.{Option, Result}
+use Rattle.basics.specs.declared.Refused.{Refused}
+use Rattle.basics.specs.Refusals.{Reply, answered, refused, reply_of}
 use Rattle.basics.proofs.Tests.{either}
 use Rattle.basics.specs.Buffers.{over}
 use Rattle.lines.specs.Texts.{compiled_reply}
-use Rattle.lines.specs.declared.Compiled.{Compiled}
+use Rattle.lines.specs.declared.Rejection.{Rejection}
 use Rattle.definitions.specs.declared.Definition.{Definition}
 use Rattle.definitions.specs.Definitions.{types, typed_in}
 use Rattle.table.specs.Check.{lent_table}
 use Rattle.table.proofs.Readback.{AllInRange, operand_small, lent_in_range}
-use Rattle.writing.specs.Writing.{Put}
-use Rattle.writing.proofs.Puts.{put_front}
 use Rattle.lookup.proofs.Buffers.{filled_to, filled_more, filled_all}
-use Rattle.typing.specs.declared.Entry.{Entry}
 use Rattle.typing.specs.Typing.{nothing, entries_by, typing_reply, typing_entries}
 use Rattle.typing.proofs.TypedCells.{entry_types, entries_length}
-use Rattle.attributes.specs.declared.Place.{Place}
+use Rattle.attributes.specs.declared.State.{State}
 use Rattle.attributes.specs.Cells.{attribute_cell}
 use Rattle.attributes.specs.Compile.{compiled_attributes, attributes_reply, outcome_places}
 use Rattle.byte_tables.specs.Compile.{compiled_bytes, outcome_cells}
@@ -40,7 +38,7 @@ module _ {A : Type 0} (f : A → ℕ) (l : List A) (size : length l ≡ cell_cou
   pub all_over : i ≤ cell_count → cell_count ≤ i → new ≡ over (map f l) old
   all_over h k = filled_all f l old i (omega arith) (omega arith) e
 
-pub entry_fits : (es : List Entry) (i : ℕ) {v : ℕ} → EntriesFit es → i < cell_count → v ≡ entry_code (get_or es i nothing) → v < 2 ^ 32
+pub entry_fits : (es : List (Option ℕ)) (i : ℕ) {v : ℕ} → EntriesFit es → i < cell_count → v ≡ entry_code (get_or es i nothing) → v < 2 ^ 32
 entry_fits es i f h p = rw p (f.each i h)
 
 -- ---- numbers one after another
@@ -57,18 +55,18 @@ number_at first (suc count) zero h = omega arith
 number_at first (suc count) (suc i) h = omega (arith, number_at (first + 1) count i (omega arith))
 
 -- the bytes are such a list, and the one at place i is i
-abbrev pub cells_to : List Place → ℕ → List ℕ → List ℕ
+abbrev pub cells_to : List State → ℕ → List ℕ → List ℕ
 cells_to places i old = filled_to (λ (byte : ℕ). attribute_cell places byte) (numbers_from 0 cell_count) i old
 
-pub cells_more : (places : List Place) (old : List ℕ) (i : ℕ) {new : List ℕ} {v : ℕ} → new ≡ cells_to places i old → i < cell_count → cell_count ≤ length old
+pub cells_more : (places : List State) (old : List ℕ) (i : ℕ) {new : List ℕ} {v : ℕ} → new ≡ cells_to places i old → i < cell_count → cell_count ≤ length old
     → v ≡ attribute_cell places i → set new i v ≡ cells_to places (i + 1) old
 cells_more places old i e h room p =
     let here : get_or (numbers_from 0 cell_count) i 0 ≡ i = omega (arith, number_at 0 cell_count i h) in
     all_more (λ (byte : ℕ). attribute_cell places byte) (numbers_from 0 cell_count) (numbers_length 0 cell_count) old i e 0 h room (rw here p)
 
--- an array that is copied
-pub copied : (l old : List ℕ) {r : ℕ} {new : List ℕ} → length l ≡ cell_count → cell_count ≤ length old → Put old 0 l r new → new ≡ over l old
-copied l old size room p = p.bytes ∙ put_front l old (omega arith)
+-- the size of an array that is copied
+pub size_within : (all old : List ℕ) → length all ≡ cell_count → cell_count ≤ length old → length (take cell_count old) ≡ length all
+size_within all old size room = length-take-le cell_count old room ∙ sym size
 
 -- ---- what a table types
 
@@ -76,9 +74,9 @@ typed_small : (ds : List Definition) → AllInRange ds → (cell : ℕ) → char
 unfolding typed_in
 typed_small [] f cell = omega arith
 typed_small (d ∷ ds) f cell =
-    either (λ (m : Maybe). character_code m < 2 ^ 32) (types d.meaning cell) (omega (arith, operand_small d.character f.0.character)) (typed_small ds f.1 cell)
+    either (λ (m : Option ℕ). character_code m < 2 ^ 32) (types d.meaning cell) (omega (arith, operand_small d.character f.0.character)) (typed_small ds f.1 cell)
 
-pub entries_fit : (ws : List ℕ) {es : List Entry} → es ≡ typing_entries ws → EntriesFit es
+pub entries_fit : (ws : List ℕ) {es : List (Option ℕ)} → es ≡ typing_entries ws → EntriesFit es
 entries_fit ws e = rw e (go (lent_table ws) refl)
   where
     go : (lent : Reply (List Definition)) → lent_table ws ≡ lent → EntriesFit (entries_by lent)
@@ -115,11 +113,11 @@ long_left : {A B : Type 0} (reply : A → Reply B) {v w : A} {x : Reply B} (new 
     → left ≡ after (reply w) new old → left ≡ after (with_room (length old) x) new old
 long_left reply new old long p q e = rw (le-ltb (length old) cell_count long, ← p, q) e
 
-pub entries_left : (ws : List ℕ) {v w : Filling} {es : List Entry} (old : List ℕ) {left : List ℕ} → cell_count ≤ length old → filling_reply v ≡ typing_reply ws → es ≡ typing_entries ws → v ≡ w
-    → left ≡ after (filling_reply w) (map entry_code es) old → left ≡ entries_after ws old
-entries_left ws old long p from q e = long_left filling_reply (map entry_code (typing_entries ws)) old long p q (rw from at e)
+pub entries_left : (ws : List ℕ) {v w : Result Unit Refused} {es : List (Option ℕ)} (old : List ℕ) {left : List ℕ} → cell_count ≤ length old → reply_of v ≡ typing_reply ws → es ≡ typing_entries ws → v ≡ w
+    → left ≡ after (reply_of w) (map entry_code es) old → left ≡ entries_after ws old
+entries_left ws old long p from q e = long_left reply_of (map entry_code (typing_entries ws)) old long p q (rw from at e)
 
-pub cells_left : (text : List ℕ) {v w : Compiled} {places : List Place} (old : List ℕ) {left : List ℕ} → cell_count ≤ length old → compiled_reply v ≡ attributes_reply (compiled_attributes text)
+pub cells_left : (text : List ℕ) {v w : Result ℕ Rejection} {places : List State} (old : List ℕ) {left : List ℕ} → cell_count ≤ length old → compiled_reply v ≡ attributes_reply (compiled_attributes text)
     → places ≡ outcome_places (compiled_attributes text) → v ≡ w → left ≡ after (compiled_reply w) (cells_of places) old → left ≡ cells_after text old
 cells_left text old long p from q e = long_left compiled_reply (cells_of (outcome_places (compiled_attributes text))) old long p q (rw from at e)
 

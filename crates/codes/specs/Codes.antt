@@ -1,23 +1,20 @@
 -- What the exported calls answer, as one number of 64 bits.
 use Rattle.std.specs.Prelude.{ℕ, zero, suc, ◌+◌, ◌*◌, ◌^◌, min, ◌-◌, List, [], ◌∷◌, map, length, ltb}
-use Rattle.basics.specs.Choice.{pick, if_character}
+use Rattle.std.specs.Prelude.{Option, None, Some}
+use Rattle.basics.specs.Choice.{pick, if_some}
 use Rattle.basics.specs.Refusals.{Reply, answered, refused}
-use Rattle.basics.specs.declared.Maybe.{Maybe}
 use Rattle.basics.specs.Buffers.{over}
 use Rattle.lines.specs.Texts.{outcome_column}
 use Rattle.rules.specs.declared.Answer.{Answer}
-use Rattle.by_order.specs.declared.Pair.{Pair}
-use Rattle.by_order.specs.declared.Pair.TheVariants.{At, Nowhere}
 use Rattle.by_order.specs.declared.Sought.{Sought}
-use Rattle.typing.specs.declared.Entry.{Entry}
 use Rattle.typing.specs.Typing.{typing_reply, typing_entries, typed_by}
-use Rattle.attributes.specs.declared.Place.{Place}
+use Rattle.attributes.specs.declared.State.{State}
 use Rattle.attributes.specs.Cells.{attribute_cell}
 use Rattle.attributes.specs.Compile.{compiled_attributes, attributes_reply, outcome_places}
 use Rattle.byte_tables.specs.Compile.{compiled_bytes, bytes_reply, outcome_cells}
 
--- a refusal: its number × 2^48 + its column × 2^32 + its place; a column beyond 2^16 − 1 is given as that, a place beyond
--- 2^32 − 1 as that
+-- a refusal: its number × 2^48 + its column × 2^32 + its place; a column beyond 2^16 − 1 is given as that, a place
+-- beyond 2^32 − 1 as that
 abbrev pub refusal_code : ℕ → ℕ → ℕ → ℕ
 refusal_code number column place = number * 2 ^ 48 + min column (2 ^ 16 - 1) * 2 ^ 32 + min place (2 ^ 32 - 1)
 
@@ -46,9 +43,9 @@ abbrev pub count_code : Reply ℕ → ℕ
 count_code reply = code_of (λ count. count) 0 reply
 
 -- a search: comparisons + 2^8 × (pair + 1), the second 0 for none
-abbrev pub pair_code : Pair → ℕ
-pair_code (At k) = k + 1
-pair_code Nowhere = 0
+abbrev pub pair_code : Option ℕ → ℕ
+pair_code (Some k) = k + 1
+pair_code None = 0
 
 abbrev pub sought_code : Sought → ℕ
 sought_code s = s.comparisons + 2 ^ 8 * pair_code s.pair
@@ -57,8 +54,8 @@ abbrev pub search_code : Reply Sought → ℕ
 search_code reply = code_of sought_code 0 reply
 
 -- typing: 0 for nothing, else the character + 1
-abbrev pub character_code : Maybe → ℕ
-character_code typed = if_character typed 0 (λ c. c + 1)
+abbrev pub character_code : Option ℕ → ℕ
+character_code typed = if_some typed 0 (λ c. c + 1)
 
 abbrev pub typed_code : List ℕ → ℕ → ℕ
 typed_code ws cell = code_of (λ u. character_code (typed_by ws cell)) 0 (typing_reply ws)
@@ -66,7 +63,8 @@ typed_code ws cell = code_of (λ u. character_code (typed_by ws cell)) 0 (typing
 -- attributes: the cell of the byte
 abbrev pub attribute_code : List ℕ → ℕ → ℕ
 attribute_code text byte =
-    code_of (λ lines. attribute_cell (outcome_places (compiled_attributes text)) byte) (outcome_column (compiled_attributes text)) (attributes_reply (compiled_attributes text))
+    code_of (λ lines. attribute_cell (outcome_places (compiled_attributes text)) byte)
+    (outcome_column (compiled_attributes text)) (attributes_reply (compiled_attributes text))
 
 -- ---- for all 256 cells, for all 256 bytes
 
@@ -91,8 +89,8 @@ after (refused number place) new old = old
 abbrev pub entries_reply : List ℕ → ℕ → Reply (Unit {0})
 entries_reply ws room = with_room room (typing_reply ws)
 
-abbrev pub entry_code : Entry → ℕ
-entry_code e = character_code e.types
+abbrev pub entry_code : Option ℕ → ℕ
+entry_code typed = character_code typed
 
 abbrev pub entries_after : List ℕ → List ℕ → List ℕ
 entries_after ws old = after (entries_reply ws (length old)) (map entry_code (typing_entries ws)) old
@@ -109,11 +107,12 @@ unfoldable pub numbers_from : ℕ → ℕ → List ℕ
 numbers_from first zero = []
 numbers_from first (suc count) = first ∷ numbers_from (first + 1) count
 
-abbrev pub cells_of : List Place → List ℕ
+abbrev pub cells_of : List State → List ℕ
 cells_of places = map (λ (byte : ℕ). attribute_cell places byte) (numbers_from 0 cell_count)
 
 abbrev pub cells_after : List ℕ → List ℕ → List ℕ
-cells_after text old = after (cells_reply text (length old)) (cells_of (outcome_places (compiled_attributes text))) old
+cells_after text old =
+    after (cells_reply text (length old)) (cells_of (outcome_places (compiled_attributes text))) old
 
 -- the cells of all bytes of a byte table: those of a refused text are written too, and those under 21
 abbrev pub byte_cells_reply : ℕ → List ℕ → ℕ → Reply ℕ
@@ -123,4 +122,5 @@ abbrev pub byte_cells_column : ℕ → List ℕ → ℕ → ℕ
 byte_cells_column charset text room = column_with_room room (outcome_column (compiled_bytes charset text))
 
 abbrev pub byte_cells_after : ℕ → List ℕ → List ℕ → List ℕ
-byte_cells_after charset text old = pick (ltb (length old) cell_count) old (over (outcome_cells (compiled_bytes charset text)) old)
+byte_cells_after charset text old =
+    pick (ltb (length old) cell_count) old (over (outcome_cells (compiled_bytes charset text)) old)

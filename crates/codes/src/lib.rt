@@ -3,52 +3,44 @@
 #![tactic(auto)]
 
 ghost use Rattle.std.specs.Prelude.{◌≡◌, map, ◌≤◌, min, length};
-ghost use Rattle.basics.specs.Refusals.{number_of, filling_reply};
+ghost use Rattle.basics.specs.Refusals.{number_of, reply_of};
 ghost use Rattle.basics.specs.Buffers.{over};
 ghost use Rattle.definitions.specs.Effects.{definition_limit};
 ghost use Rattle.lines.specs.Texts.{compiled_reply, compiled_column};
-ghost use Rattle.codes.specs.Codes.{refusal_code, compile_code, answer_code, pair_code, sought_code, filling_code, character_code, cell_count, entry_code, cells_of};
+ghost use Rattle.codes.specs.Codes.{refusal_code, compile_code, answer_code, pair_code, sought_code};
+ghost use Rattle.codes.specs.Codes.{filling_code, character_code, cell_count, entry_code, cells_of};
 ghost use Rattle.codes.specs.Internal.{EntriesFit};
 
-use attributes::Place;
-use basics::{Filling, Maybe, Refusal};
-use by_order::{Pair, Sought};
-use lines::Compiled;
+use attributes::State;
+use basics::{Refusal, Refused};
+use by_order::Sought;
+use lines::Rejection;
 use rules::Answer;
-use typing::Entry;
-
-// A number, or the most that may be given for it.
-fn at_most(n: usize, most: u64) -> u64
-    ensures { result ≡ min n most }
-{
-    let given = n as u64;
-    if given <= most {
-        return given;
-    }
-    most
-}
 
 // A refusal as one number.
 pub fn refusal_code(refusal: Refusal, column: usize, place: usize) -> u64
     ensures { result ≡ refusal_code (number_of refusal) column place }
 {
-    let number = basics::number_of(refusal) as u64;
-    let middle = at_most(column, 0xFFFF);
-    let low = at_most(place, 0xFFFFFFFF);
+    let number = u64::from(basics::number_of(refusal));
+    let middle = column.min(0xFFFF) as u64;
+    let low = place.min(0xFFFFFFFF) as u64;
     number * 0x1000000000000 + middle * 0x100000000 + low
 }
 
+// The refusal of a call that has no column.
+pub fn refused_code(refused: Refused) -> u64
+    ensures { result ≡ refusal_code (number_of refused.refusal) 0 refused.place }
+{
+    refusal_code(refused.refusal, 0, refused.place)
+}
+
 // What a compile call answers, as one number.
-pub fn compile_code(answer: Compiled) -> u64
+pub fn compile_code(answer: Result<usize, Rejection>) -> u64
     ensures { result ≡ compile_code (compiled_column answer) (compiled_reply answer) }
 {
     match answer {
-        Compiled::Accepted(count) => count as u64,
-        Compiled::Refused {
-            refusal,
-            line,
-            column,
-        } => refusal_code(refusal, column, line),
+        Ok(count) => count as u64,
+        Err(rejection) => refusal_code(rejection.refusal, rejection.column, rejection.line),
     }
 }
 
@@ -57,17 +49,17 @@ pub fn answer_code(a: Answer) -> u64
     requires { a.links ≤ definition_limit }
     ensures { result ≡ answer_code a }
 {
-    a.cell as u64 + 0x100 * (a.rule as u64) + 0x10000 * (a.links as u64)
+    u64::from(a.cell) + 0x100 * u64::from(a.rule) + 0x10000 * (a.links as u64)
 }
 
 // The number of a pair that there may be, from 1, or 0.
-fn pair_code(pair: Pair) -> u64
+fn pair_code(pair: Option<usize>) -> u64
     requires { pair_code pair ≤ definition_limit }
     ensures { result ≡ pair_code pair }
 {
     match pair {
-        Pair::At(k) => k as u64 + 1,
-        Pair::Nowhere => 0,
+        Some(k) => k as u64 + 1,
+        None => 0,
     }
 }
 
@@ -76,27 +68,26 @@ pub fn sought_code(sought: Sought) -> u64
     requires { (sought.comparisons ≤ 11) × (pair_code sought.pair ≤ definition_limit) }
     ensures { result ≡ sought_code sought }
 {
-    let pair = sought.pair;
-    sought.comparisons as u64 + 0x100 * pair_code(pair)
+    sought.comparisons as u64 + 0x100 * pair_code(sought.pair)
 }
 
 // What a call that fills answers, as one number.
-pub fn filling_code(answer: Filling) -> u64
-    ensures { result ≡ filling_code (filling_reply answer) }
+pub fn filling_code(answer: Result<(), Refused>) -> u64
+    ensures { result ≡ filling_code (reply_of answer) }
 {
     match answer {
-        Filling::Filled => 0,
-        Filling::Refused(refusal, place) => refusal_code(refusal, 0, place),
+        Ok(()) => 0,
+        Err(refused) => refused_code(refused),
     }
 }
 
 // What an entry types, as one number.
-pub fn character_code(typed: Maybe) -> u64
+pub fn character_code(typed: Option<u32>) -> u64
     ensures { result ≡ character_code typed }
 {
     match typed {
-        Maybe::Nothing => 0,
-        Maybe::Character(c) => c as u64 + 1,
+        Some(c) => u64::from(c) + 1,
+        None => 0,
     }
 }
 
@@ -104,35 +95,30 @@ pub fn character_code(typed: Maybe) -> u64
 pub const CELL_COUNT: usize = 256;
 
 // Writes what each of the 256 entries types.
-pub fn put_entries(entries: [Entry; 256], codes: &mut [u32])
+pub fn put_entries(entries: [Option<u32>; 256], codes: &mut [u32])
     requires { (cell_count ≤ length codes.old) × EntriesFit entries }
     ensures { codes.new ≡ over (map entry_code entries) codes.old }
 {
-    let mut i = 0;
-    while i < CELL_COUNT {
-        let e = entries[i];
-        let typed = e.types;
-        codes[i] = character_code(typed) as u32;
-        i += 1;
+    for (i, typed) in entries.iter().enumerate() {
+        codes[i] = character_code(*typed) as u32;
     }
 }
 
 // Writes the cell of each of the 256 attribute bytes.
-pub fn put_cells(places: [Place; 8], cells: &mut [u8])
+pub fn put_cells(places: [State; 8], cells: &mut [u8])
     requires { cell_count ≤ length cells.old }
     ensures { cells.new ≡ over (cells_of places) cells.old }
 {
-    let mut i = 0;
-    while i < CELL_COUNT {
-        cells[i] = attributes::attribute_cell(places, i as u8);
-        i += 1;
+    for byte in 0..CELL_COUNT {
+        cells[byte] = attributes::attribute_cell(places, byte as u8);
     }
 }
 
 // Writes the 256 cells of a byte table.
+#[tactic(auto, using(crate::proofs::WholeTables::size_within))]
 pub fn put_bytes(all: [u8; 256], cells: &mut [u8])
     requires { cell_count ≤ length cells.old }
     ensures { cells.new ≡ over all cells.old }
 {
-    writing::put_bytes(cells, 0, &all);
+    cells[..CELL_COUNT].copy_from_slice(&all);
 }
