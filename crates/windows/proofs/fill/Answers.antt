@@ -4,7 +4,7 @@ use Rattle.windows.proofs.Outputs.{in_page, in_output, filled_none, filled_more,
 use Rattle.windows.proofs.fill.Goals as goal
 
 pub loop-w-init : goal.loop-w-init
-loop-w-init g c = (filled_none _ _ _ _ c.requires.within c.requires.room.0, filled_none _ _ _ _ c.requires.within c.requires.room.1)
+loop-w-init g c = search filled_none
 
 pub overflow_add-part : goal.overflow_add-part
 overflow_add-part g c =
@@ -17,22 +17,19 @@ offset_bounds-page-w g c =
     search rules
 
 pub slice_bounds-part-end : goal.slice_bounds-part-end
-slice_bounds-part-end g c = in_page _ _ _ _ c.loop-w.invariant.0 (next_window _ _ _ c.loop-w-test.true c.w-item.is c.window-w.ensures)
+slice_bounds-part-end g c = search (in_page, next_window)
 
 pub slice_bounds-fill-end : goal.slice_bounds-fill-end
-slice_bounds-fill-end g c = in_output _ _ _ _ c.loop-w.invariant.0 (next_window _ _ _ c.loop-w-test.true c.w-item.is c.window-w.ensures)
+slice_bounds-fill-end g c = search (in_output, next_window)
 
 pub slice_bounds-fill-end-in-loop-w : goal.slice_bounds-fill-end-in-loop-w
-slice_bounds-fill-end-in-loop-w g c = in_output _ _ _ _ c.loop-w.invariant.1 (next_window _ _ _ c.loop-w-test.true c.w-item.is c.window-w.ensures)
+slice_bounds-fill-end-in-loop-w g c = search (in_output, next_window)
 
 pub loop-w-preserved : goal.loop-w-preserved
-loop-w-preserved g c = (
-  filled_more _ _ _ _ c.loop-w.invariant.0 (next_window _ _ _ c.loop-w-test.true c.w-item.is c.window-w.ensures) c.fill.ensures.cells,
-  filled_more _ _ _ _ c.loop-w.invariant.1 (next_window _ _ _ c.loop-w-test.true c.w-item.is c.window-w.ensures) c.fill.ensures.rules,
-)
+loop-w-preserved g c = (search (filled_more, next_window), search (filled_more, next_window))
 
 pub returns-clause-cells : goal.returns-clause-cells
-returns-clause-cells g c = filled_all _ _ _ _ c.loop-w.invariant.0 (no_window _ _ _ c.loop-w-test.false)
+returns-clause-cells g c = search (filled_all, no_window)
 
 pub returns-clause-rules : goal.returns-clause-rules
-returns-clause-rules g c = filled_all _ _ _ _ c.loop-w.invariant.1 (no_window _ _ _ c.loop-w-test.false)
+returns-clause-rules g c = search (filled_all, no_window)

@@ -8,4 +8,4 @@ pub loop-w-preserved : goal.loop-w-preserved
 loop-w-preserved g c = fit_next _ _ _ _ c.loop-w.invariant (next_window _ _ _ c.loop-w-test.true c.w-item.is c.window.ensures) c.in-Some.ensures
 
 pub returns : goal.returns
-returns g c = fit_all _ _ _ _ c.loop-w.invariant (no_window _ _ _ c.loop-w-test.false)
+returns g c = search (fit_all, no_window)
