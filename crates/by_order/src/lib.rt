@@ -1,19 +1,18 @@
 // The calls by an order of a table's pairs: building it, the search, the lookup call and the page call.
 #![tactic(auto)]
 
-ghost use Rattle.std.specs.Prelude.{◌≡◌, map, ◌≤◌, length};
+ghost use Rattle.std.specs.Prelude.{◌≡◌, ◌≤◌, length};
 ghost use Rattle.std.specs.List.{All};
 ghost use Rattle.basics.specs.Refusals.{reply_of};
 ghost use Rattle.basics.specs.Buffers.{over};
-ghost use Rattle.pairs.specs.Words.{charset_of, table_of};
+ghost use Rattle.pairs.specs.Words.{charset_of};
 ghost use Rattle.table.specs.Check.{lent_table};
 ghost use Rattle.definitions.specs.Definitions.{table};
-ghost use Rattle.rules.specs.Rules.{lookup};
 ghost use Rattle.rules.specs.Internal.{lookup_by};
 ghost use Rattle.order.specs.Order.{searched};
 ghost use Rattle.lookup.specs.Calls.{LentLinks, Pages};
 ghost use Rattle.by_order.specs.Calls.{Builds, ordered_lookup, ordered_plan, sought_of, search_reply};
-ghost use Rattle.by_order.specs.Internal.{shown_of, IsShown};
+ghost use Rattle.by_order.specs.Internal.{plain, cells_of, rules_of, shown_of, IsShown};
 
 use basics::{Refusal, Refused};
 use definitions::DEFINITION_LIMIT;
@@ -60,7 +59,9 @@ impl<T: Finder + Copy> Memory<T> {
     // What is shown for a character: as it is kept, or by the rules, and then kept.
     fn recall(&mut self, character: u32) -> Shown
         ensures same { self.new.by ≡ self.old.by }
-        ensures shows { result ≡ shown_of (lookup_by self.old.by.charset (table (T.definitions self.old.by.finder)) self.old.by.last) character }
+        ensures shows { result
+            ≡ shown_of (lookup_by self.old.by.charset (table (T.definitions self.old.by.finder)) self.old.by.last)
+            character }
     {
         let slot = ordered::slot_of(character);
         let kept = self.kept[slot];
@@ -99,7 +100,9 @@ pub fn build_order(words: &[u32], order: &mut [u32]) -> Result<usize, Refused>
 
 // The search for a character.
 fn seek(in_order: &InOrder<'_>, c: u32) -> Sought
-    ensures { result ≡ sought_of in_order.now.order.now (searched in_order.now.words.now in_order.now.order.now in_order.now.count c) }
+    ensures { result
+        ≡ sought_of in_order.now.order.now
+        (searched in_order.now.words.now in_order.now.order.now in_order.now.count c) }
 {
     let halved = in_order.halve(c);
     let pair = match halved.place {
@@ -125,7 +128,7 @@ pub fn search(words: &[u32], order: &[u32], c: u32) -> Result<Sought, Refused>
 
 // The answer for one scalar value. It is not worth marks of its own, so every slot has one.
 fn answer_in(in_order: &InOrder<'_>, c: u32) -> Answer
-    ensures { result ≡ lookup (charset_of in_order.now.words.now) (table_of in_order.now.count in_order.now.words.now) c }
+    ensures { result ≡ plain in_order.now.words.now in_order.now.count c }
 {
     let in_order = *in_order;
     let marks = [1; SLOTS];
@@ -159,8 +162,16 @@ fn fill_kept<T: Finder + Copy>(
 )
     requires wide { length characters.now ≤ length cells.old }
     requires deep { length characters.now ≤ length rules.old }
-    ensures cells { cells.new ≡ over (map (λ c. (lookup_by memory.old.by.charset (table (T.definitions memory.old.by.finder)) memory.old.by.last c).cell) characters.now) cells.old }
-    ensures rules { rules.new ≡ over (map (λ c. (lookup_by memory.old.by.charset (table (T.definitions memory.old.by.finder)) memory.old.by.last c).rule) characters.now) rules.old }
+    ensures cells { cells.new
+        ≡ over
+        (cells_of (lookup_by memory.old.by.charset (table (T.definitions memory.old.by.finder)) memory.old.by.last)
+        characters.now)
+        cells.old }
+    ensures rules { rules.new
+        ≡ over
+        (rules_of (lookup_by memory.old.by.charset (table (T.definitions memory.old.by.finder)) memory.old.by.last)
+        characters.now)
+        rules.old }
 {
     for i in 0..characters.len() {
         let shown = memory.recall(characters[i]);
@@ -173,8 +184,10 @@ fn fill_kept<T: Finder + Copy>(
 fn fill_by(in_order: &InOrder<'_>, characters: &[u32], cells: &mut [u8], rules: &mut [u8])
     requires wide { length characters.now ≤ length cells.old }
     requires deep { length characters.now ≤ length rules.old }
-    ensures cells { cells.new ≡ over (map (λ c. (lookup (charset_of in_order.now.words.now) (table_of in_order.now.count in_order.now.words.now) c).cell) characters.now) cells.old }
-    ensures rules { rules.new ≡ over (map (λ c. (lookup (charset_of in_order.now.words.now) (table_of in_order.now.count in_order.now.words.now) c).rule) characters.now) rules.old }
+    ensures cells { cells.new
+        ≡ over (cells_of (plain in_order.now.words.now in_order.now.count) characters.now) cells.old }
+    ensures rules { rules.new
+        ≡ over (rules_of (plain in_order.now.words.now in_order.now.count) characters.now) rules.old }
 {
     let in_order = *in_order;
     let mut marks = [0; SLOTS];
@@ -197,7 +210,9 @@ pub fn page_by(
     cells: &mut [u8],
     rules: &mut [u8],
 ) -> Result<(), Refused>
-    ensures { Pages (λ reply. reply) (ordered_plan words.now order.now characters.now (length cells.old) (length rules.old)) characters.now cells.old rules.old (reply_of result) cells.new rules.new }
+    ensures { Pages (λ reply. reply)
+        (ordered_plan words.now order.now characters.now (length cells.old) (length rules.old))
+        characters.now cells.old rules.old (reply_of result) cells.new rules.new }
 {
     if cells.len() < characters.len() || rules.len() < characters.len() {
         return Err(Refusal::ShortSlice.into());

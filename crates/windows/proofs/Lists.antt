@@ -8,13 +8,13 @@ use native.Mathlib.Numerals.{add-one}
 use lib.Dec.{leb}
 use lib.ListN.{length, get_or, drop, get_or-map, length-map, drop_of_length-le}
 use lib.Seq.{drop-cons}
-use borrow.Author.Tests.{le-leb, lt-leb, leb-true, leb-false}
+use borrow.Author.Tests.{le-leb, lt-leb, leb-true}
 use Rattle.std.specs.List.{position_from}
 use Rattle.std.specs.Simd.{first_chunks}
 use Rattle.std.proofs.Common.{min}
 use Rattle.std.proofs.lemmas.Bool.Decides.{nat_tests}
 use Rattle.basics.specs.Choice.{if_some}
-use Rattle.basics.proofs.Tests.{by_cases, both}
+use Rattle.basics.proofs.Tests.{by_cases}
 use Rattle.basics.specs.Refusals.{answered, refused}
 use Rattle.windows.specs.declared.Window.{Window}
 use Rattle.windows.specs.Windows.{widths, is_within, all_within, both_hold, windows_of}
@@ -33,16 +33,13 @@ no_window window xs i h = drop_of_length-le (map window xs) {i = i} (omega (arit
 
 -- ---- within the page
 
-pub not_refused : {A : Type 0} {number place : ℕ} {a : A} → refused number place ≡ answered a → ⊥
-not_refused e = let z : ◌≡◌ {A = ℕ} 0 1 = cc in omega arith
-
 -- the windows behind one that is within the page
 pub within_rest : (n : ℕ) (w : Window) (ws : List Window) (i : ℕ) → all_within n (w ∷ ws) i ≡ answered tt → (w.start + w.width ≤ n) × (all_within n ws (i + 1) ≡ answered tt)
 unfolding all_within
 within_rest n w ws i o =
     by_cases (is_within n w)
     (λ e. (leb-true (w.start + w.width) n e, rw e at o))
-    (λ e. absurd (not_refused (rw e at o)))
+    (λ e. let p : refused 19 i ≡ answered tt = rw e at o in cc)
 
 -- the first window beyond the page, as std finds it
 pub first_beyond : {A : Type 0} (window : A → Window) (page : ℕ) (xs : List A) (i : ℕ)
@@ -62,15 +59,10 @@ hold_least n cells rules = grind (arith, nat_tests)
 
 -- a sum that is not formed
 leb_rest : (a b n : ℕ) → a ≤ n → leb b (n - a) ≡ leb (a + b) n
-leb_rest a b n h =
-    by_cases (leb b (n - a))
-    (λ e. e ∙ sym (le-leb (a + b) n (let g : b ≤ n - a = leb-true b (n - a) e in omega arith)))
-    (λ e. e ∙ sym (lt-leb (a + b) n (let g : n - a < b = leb-false b (n - a) e in omega arith)))
+leb_rest a b n h = grind (arith, nat_tests)
 
 pub each_holds : (n cells rules : ℕ) → both_hold n cells rules ≡ true → (n ≤ cells) × (n ≤ rules)
-each_holds n cells rules e =
-    let h = both (leb n cells) (leb n rules) e in
-    (leb-true n cells h.0, leb-true n rules h.1)
+each_holds n cells rules e = grind (arith, nat_tests)
 
 module _ (ws : List Window) (room i left : ℕ) (inv : leb (widths ws) room ≡ leb (widths (drop i ws)) left) where
   pub fit_next : {w : Window} {rest : ℕ} → drop i ws ≡ w ∷ drop (i + 1) ws → (w.width ≤ left) × (rest ≡ left - w.width) → leb (widths ws) room ≡ leb (widths (drop (i + 1) ws)) rest

@@ -23,16 +23,13 @@ use Rattle.windows.specs.declared.Window.{Window}
 use Rattle.windows.specs.Windows.{part_of, parts_of, widths, all_within, both_hold, windows_plan}
 use Rattle.windows.specs.OnePerWindow.{Call, called, page_call, followed_by, one_per_window, EqualsOnePerWindow}
 use Rattle.windows.proofs.Outputs.{part_length, over_more, over_whole}
-use Rattle.windows.proofs.Lists.{each_holds, not_refused, within_rest}
+use Rattle.windows.proofs.Lists.{each_holds, within_rest}
 
 -- ---- a part of a page of scalar values is one
 
-not_some : {i : ℕ} → Some i ≡ None → ⊥
-not_some e = let z : ◌≡◌ {A = ℕ} 0 1 = cc in omega arith
-
 scalar_first : (c : ℕ) (cs : List ℕ) (i : ℕ) → first_no_scalar (c ∷ cs) i ≡ None → (is_scalar c ≡ true) × (first_no_scalar cs (i + 1) ≡ None)
 unfolding first_no_scalar
-scalar_first c cs i o = by_cases (is_scalar c) (λ e. (e, rw e at o)) (λ e. absurd (not_some (rw e at o)))
+scalar_first c cs i o = by_cases (is_scalar c) (λ e. (e, rw e at o)) (λ e. let p : Some i ≡ None = rw e at o in cc)
 
 taken : (k : ℕ) (cs : List ℕ) (i j : ℕ) → first_no_scalar cs i ≡ None → first_no_scalar (take k cs) j ≡ None
 unfolding first_no_scalar
@@ -103,7 +100,7 @@ module _ (ws : List Window) (words page cells rules : List ℕ) where
   Equal = called (page_reply plan) (page_cells plan (parts_of page ws) cells) (page_rules plan (parts_of page ws) rules) ≡ one_per_window ws words page cells rules
 
   not_accepted : {number place : ℕ} → plan ≡ refused number place → page_reply plan ≡ answered tt → Equal
-  not_accepted e o = absurd (not_refused (rw e at o))
+  not_accepted {number} {place} e o = let p : refused number place ≡ answered tt = rw e at o in cc
 
   by_scalars : (ds : List Definition) (s : Option ℕ) → lent_table words ≡ answered ds → all_within (length page) ws 0 ≡ answered tt → both_hold (widths ws) (length cells) (length rules) ≡ true
       → first_no_scalar page 0 ≡ s → page_reply plan ≡ answered tt → Equal

@@ -9,9 +9,10 @@ use Rattle.windows.specs.Windows.{parts_of, widths, all_within}
 abbrev pub pair_window : List ℕ → Window
 pair_window pair = record { start = get_or pair 0 0; width = get_or pair 1 0 }
 
--- what an output holds in place of the old bytes where `at` of them are written: the windows before number i, as f shows their characters. The
--- others lie within the page, and there is room for them
-pub record Filled (f : ℕ → ℕ) (page : List ℕ) (ws : List Window) (old : List ℕ) (i at : ℕ) (now : List ℕ) : Type 0 where
+-- what an output holds where `at` bytes of it are written: the windows before number i, as f shows their characters.
+-- The others lie within the page, and there is room for them
+pub record Filled (f : ℕ → ℕ) (page : List ℕ) (ws : List Window) (old : List ℕ) (i at : ℕ) (now : List ℕ)
+    : Type 0 where
   pub written : List ℕ
   pub long : length written ≡ at
   pub bytes : now ≡ over written old

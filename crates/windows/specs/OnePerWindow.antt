@@ -23,7 +23,8 @@ page_call words page cells rules =
 
 -- one page call, then the others on what follows in both outputs; the first refusal stands
 abbrev pub followed_by : Call → Call → Call
-followed_by first others = called (and_then first.answer (λ u. others.answer)) (first.cells ++ others.cells) (first.rules ++ others.rules)
+followed_by first others =
+    called (and_then first.answer (λ u. others.answer)) (first.cells ++ others.cells) (first.rules ++ others.rules)
 
 -- one page call per window in list order, each on the window's part of the page and on the next part of both outputs
 unfoldable pub one_per_window : List Window → List ℕ → List ℕ → List ℕ → List ℕ → Call
@@ -32,7 +33,8 @@ one_per_window (w ∷ ws) words page cells rules =
     let others : Call = one_per_window ws words page (drop w.width cells) (drop w.width rules) in
     followed_by (page_call words (part_of page w) (take w.width cells) (take w.width rules)) others
 
--- that is what a call for many windows does that is accepted: the same bytes in both outputs, every one of those calls accepted
+-- that is what a call for many windows does that is accepted: the same bytes in both outputs, every one of those calls
+-- accepted
 abbrev pub EqualsOnePerWindow : Type 0
 EqualsOnePerWindow =
     (ws : List Window) (words page cells rules new-cells new-rules : List ℕ)

@@ -1,4 +1,5 @@
--- What a page call for many windows answers and writes. Order of refusals: 2 for the table, 15, 19, 2 for the outputs, 14.
+-- What a page call for many windows answers and writes.
+-- Order of refusals: 2 for the table, 15, 19, 2 for the outputs, 14.
 use Rattle.std.specs.Prelude.{ℕ, ◌+◌, Bool, ◌&&◌, List, [], ◌∷◌, ◌++◌, length, take, drop, leb}
 use Rattle.basics.specs.Choice.{pick}
 use Rattle.basics.specs.Refusals.{Reply, answered, refused, and_then}
@@ -44,11 +45,15 @@ unfoldable pub windows_plan : List Window → List ℕ → List ℕ → ℕ → 
 windows_plan ws words page cells rules =
     and_then (lent_table words) (λ ds.
     and_then (all_within (length page) ws 0) (λ u.
-    pick (both_hold (widths ws) cells rules) (unless_at (first_no_scalar page 0) (lookup (charset_of words) (table ds))) (refused 2 0)))
+    pick (both_hold (widths ws) cells rules)
+    (unless_at (first_no_scalar page 0) (lookup (charset_of words) (table ds)))
+    (refused 2 0)))
 
 -- what the call is to do: as a page call does by its plan, of the windows' parts one after another
-abbrev pub PagesWindows : {A : Type 0} → (Reply (Unit {0}) → A) → List Window → List ℕ → List ℕ → List ℕ → List ℕ → A → List ℕ → List ℕ → Type 0
-PagesWindows given ws words page cells rules = Pages given (windows_plan ws words page (length cells) (length rules)) (parts_of page ws) cells rules
+abbrev pub PagesWindows : {A : Type 0} → (Reply (Unit {0}) → A) → List Window → List ℕ → List ℕ → List ℕ → List ℕ
+    → A → List ℕ → List ℕ → Type 0
+PagesWindows given ws words page cells rules =
+    Pages given (windows_plan ws words page (length cells) (length rules)) (parts_of page ws) cells rules
 
 -- two numbers a window, its start and its width; a last number without a second one is no window
 unfoldable pub windows_of : List ℕ → List Window

@@ -86,9 +86,16 @@ fn fill<W: AsWindow, T: Finder>(
     rules: &mut [u8],
 )
     requires within { all_within (length page.now) (map W.window windows.now) 0 ≡ answered tt }
-    requires room { (widths (map W.window windows.now) ≤ length cells.old) × (widths (map W.window windows.now) ≤ length rules.old) }
-    ensures cells { cells.new ≡ over (map (λ c. (lookup_by by.now.charset (table (T.definitions by.now.finder)) by.now.last c).cell) (parts_of page.now (map W.window windows.now))) cells.old }
-    ensures rules { rules.new ≡ over (map (λ c. (lookup_by by.now.charset (table (T.definitions by.now.finder)) by.now.last c).rule) (parts_of page.now (map W.window windows.now))) rules.old }
+    requires cell_room { widths (map W.window windows.now) ≤ length cells.old }
+    requires rule_room { widths (map W.window windows.now) ≤ length rules.old }
+    ensures cells { cells.new ≡ over
+        (map (λ c. (lookup_by by.now.charset (table (T.definitions by.now.finder)) by.now.last c).cell)
+        (parts_of page.now (map W.window windows.now)))
+        cells.old }
+    ensures rules { rules.new ≡ over
+        (map (λ c. (lookup_by by.now.charset (table (T.definitions by.now.finder)) by.now.last c).rule)
+        (parts_of page.now (map W.window windows.now)))
+        rules.old }
 {
     let mut at = 0;
     for w in windows {
@@ -108,7 +115,8 @@ fn show_listed<W: AsWindow>(
     cells: &mut [u8],
     rules: &mut [u8],
 ) -> Result<(), Refused>
-    ensures { PagesWindows (λ reply. reply) (map W.window windows.now) words.now page.now cells.old rules.old (reply_of result) cells.new rules.new }
+    ensures { PagesWindows (λ reply. reply) (map W.window windows.now) words.now page.now cells.old rules.old
+        (reply_of result) cells.new rules.new }
 {
     let pairs = table::lent_table(words)?;
     if let Some(number) = first_beyond(windows, page.len()) {
@@ -139,7 +147,8 @@ pub fn show(
     cells: &mut [u8],
     rules: &mut [u8],
 ) -> Result<(), Refused>
-    ensures { PagesWindows (λ reply. reply) windows.now words.now page.now cells.old rules.old (reply_of result) cells.new rules.new }
+    ensures { PagesWindows (λ reply. reply) windows.now words.now page.now cells.old rules.old
+        (reply_of result) cells.new rules.new }
 {
     show_listed(windows, words, page, cells, rules)
 }
@@ -152,7 +161,8 @@ pub fn show_numbers(
     cells: &mut [u8],
     rules: &mut [u8],
 ) -> Result<(), Refused>
-    ensures { PagesWindows (λ reply. reply) (windows_of numbers.now) words.now page.now cells.old rules.old (reply_of result) cells.new rules.new }
+    ensures { PagesWindows (λ reply. reply) (windows_of numbers.now) words.now page.now cells.old rules.old
+        (reply_of result) cells.new rules.new }
 {
     show_listed(numbers.as_chunks::<2>().0, words, page, cells, rules)
 }
