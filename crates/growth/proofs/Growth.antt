@@ -30,7 +30,7 @@ module _ (ws : List ℕ) (ds : List Definition) (lent : lent_table ws ≡ answer
   typing_lent = rw lent
 
   typed_lent : (cell : ℕ) → typed_by ws cell ≡ get_or (entries_of ds) cell nothing
-  typed_lent cell = rw (lent, typed_by)
+  typed_lent cell = rw lent
 
 -- a slice as compiled is the table of its text's definitions, for the set that it was compiled in
 module _ (charset : ℕ) (text slice : List ℕ) {count : ℕ} (a : AnsweredText charset text (length slice) count) where
