@@ -1,9 +1,5 @@
 -- Demand 3 of the compile call that names its edition and its set: the claim, word for word, of the words that it leaves in the present edition.
-use Prim.Native.Nat.{ℕ}
-use mathlib.Core.Path.{◌≡◌}
-use mathlib.Core.Bool.{true}
-use mathlib.Core.List.{List, ◌++◌}
-use lib.ListN.{length}
+use Rattle.std.proofs.Common.{◌≡◌, ℕ, true, List, ◌++◌, length}
 use Rattle.basics.specs.Refusals.{answered}
 use Rattle.scalars.specs.Characters.{is_scalar}
 use Rattle.lines.specs.Lines.{is_ended}

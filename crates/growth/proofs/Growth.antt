@@ -1,9 +1,5 @@
 -- Demand 3: growing a table never spoils an answer, from the bytes of two texts to the answers on the two tables' words.
-use Prim.Native.Nat.{ℕ}
-use mathlib.Core.Path.{◌≡◌, sym, ◌∙◌}
-use mathlib.Core.Bool.{true, false}
-use mathlib.Core.List.{List, [], ◌++◌}
-use lib.ListN.{length, get_or, drop}
+use Rattle.std.proofs.Common.{◌≡◌, ℕ, true, false, List, [], ◌++◌, length, get_or, drop, sym, ◌∙◌}
 use Rattle.basics.specs.Refusals.{answered}
 use Rattle.scalars.specs.Characters.{is_scalar, local_of}
 use Rattle.lines.specs.Lines.{lines_of}
@@ -33,8 +29,8 @@ module _ (ws : List ℕ) (ds : List Definition) (lent : lent_table ws ≡ answer
   typing_lent : typing_reply ws ≡ answered tt
   typing_lent = rw lent
 
-  typed_lent : (cell : ℕ) → typed_by ws cell ≡ (get_or (entries_of ds) cell nothing).types
-  typed_lent cell = rw (lent, typed_by)
+  typed_lent : (cell : ℕ) → typed_by ws cell ≡ get_or (entries_of ds) cell nothing
+  typed_lent cell = rw lent
 
 -- a slice as compiled is the table of its text's definitions, for the set that it was compiled in
 module _ (charset : ℕ) (text slice : List ℕ) {count : ℕ} (a : AnsweredText charset text (length slice) count) where

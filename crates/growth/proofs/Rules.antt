@@ -1,23 +1,14 @@
 -- A table and one that keeps all that it has: the rule that answers falls or stays, the same rule gives the same cell, and the
 -- answer is the same where both have the same for all that it goes by. First of any two tables, then of definitions that follow.
-use Prim.Native.Nat.{ℕ, ◌+◌, ◌≤◌}
-use mathlib.Core.Path.{◌≡◌, refl}
-use mathlib.Core.Bool.{Bool, true, false}
-use mathlib.Core.List.{List, [], ◌∷◌, ◌++◌}
+use Rattle.std.proofs.Common.{◌≡◌, ℕ, ◌+◌, ◌≤◌, Bool, true, false, List, [], ◌∷◌, ◌++◌, Option, None, Some, refl, arith}
 use native.Mathlib.Nat.{le_refl}
-use native.Mathlib.Omega.{arith}
 use lib.Dec.{eqb}
 use Rattle.basics.specs.Choice.{pick}
-use Rattle.basics.specs.declared.Maybe.{Maybe}
-use Rattle.basics.specs.declared.Maybe.TheVariants as M
+use Rattle.basics.proofs.Tests.{by_cases}
 use Rattle.scalars.specs.Characters.{is_braille, local_of, base_of, stand_in_of}
 use Rattle.definitions.specs.declared.Meaning.{Meaning}
 use Rattle.definitions.specs.declared.Meaning.TheVariants.{Typed, Shown, Alias}
 use Rattle.definitions.specs.declared.Definition.{Definition}
-use Rattle.definitions.specs.declared.Found.{Found}
-use Rattle.definitions.specs.declared.Found.TheVariants.{Undefined, Is}
-use Rattle.definitions.specs.declared.Cell.{Cell}
-use Rattle.definitions.specs.declared.Cell.TheVariants.{Absent, Dots}
 use Rattle.definitions.specs.declared.Walk.{Walk}
 use Rattle.definitions.specs.Definitions.{Table, table, cell_of, target_of, explicit, alias_of, walk}
 use Rattle.definitions.specs.Effects.{is_defined}
@@ -36,8 +27,8 @@ pub record NotSpoiled (before after : Answer) : Type 0 where
 -- all that the answer for c, as it stands after rule 2, goes by in the table T
 pub record Each (T : Table) (P : ℕ → Type 0) (c : ℕ) : Type 0 where
   pub own : P c
-  pub base : (b : ℕ) → base_of c ≡ M.Character b → P b
-  pub stand_in : (s : ℕ) → stand_in_of c ≡ M.Character s → P s
+  pub base : (b : ℕ) → base_of c ≡ Some b → P b
+  pub stand_in : (s : ℕ) → stand_in_of c ≡ Some s → P s
   pub end : P (walk T c).end
   pub replacement : P 0xFFFD
   pub question : P 0x3F
@@ -54,20 +45,22 @@ each_map {T} {c = c} f e = record {
 
 -- ---- the first cell of a list, where each cell of one list is in the other too
 
-abbrev Keeps : Cell → Cell → Type 0
-Keeps o p = (dots : ℕ) → o ≡ Dots dots → p ≡ Dots dots
+-- the other has what the first has
+abbrev Keeps : {A : Type 0} → Option A → Option A → Type 0
+Keeps {A} o p = (a : A) → o ≡ Some a → p ≡ Some a
 
-data Kept : List Cell → List Cell → Type 0 where
+data Kept : List (Option ℕ) → List (Option ℕ) → Type 0 where
   none : Kept [] []
-  more : {o p : Cell} {os ps : List Cell} → Keeps o p → Kept os ps → Kept (o ∷ os) (p ∷ ps)
+  more : {o p : Option ℕ} {os ps : List (Option ℕ)} → Keeps o p → Kept os ps → Kept (o ∷ os) (p ∷ ps)
 
-choose_kept : {os ps : List Cell} → Kept os ps → (r links links' : ℕ) → NotSpoiled (choose r os links) (choose r ps links')
+choose_kept : {os ps : List (Option ℕ)} → Kept os ps → (r links links' : ℕ) → NotSpoiled (choose r os links) (choose r ps links')
 unfolding choose
 choose_kept none r links links' = record { rule = le_refl r; cell = λ e. refl }
-choose_kept (more {o = Absent} {p = Absent} h t) r links links' = choose_kept t (r + 1) links links'
-choose_kept (more {o = Absent} {p = Dots dots} {os = os} h t) r links links' =
-    record { rule = omega (arith, choose_chosen (r + 1) os links); cell = λ e. absurd (omega (arith, choose_chosen (r + 1) os links)) }
-choose_kept (more {o = Dots dots} {p = p} h t) r links links' = rw (h dots refl) (record { rule = le_refl r; cell = λ e. refl })
+choose_kept (more {o = None} {p = None} h t) r links links' = choose_kept t (r + 1) links links'
+choose_kept (more {o = None} {p = Some dots} {os = os} h t) r links links' =
+    let later = choose_chosen (r + 1) os links in
+    record { rule = omega arith; cell = λ e. absurd (omega arith) }
+choose_kept (more {o = Some dots} {p = p} h t) r links links' = rw (h dots refl) (record { rule = le_refl r; cell = λ e. refl })
 
 pick_kept : (b : Bool) (a : Answer) {x y : Answer} → NotSpoiled x y → NotSpoiled (pick b a x) (pick b a y)
 pick_kept true a h = record { rule = le_refl _; cell = λ e. refl }
@@ -80,58 +73,49 @@ abbrev pub Whole : Table → Type 0
 Whole T = (c : ℕ) → Walks (alias_of T) c (walk T c).end (walk T c).links
 
 walk_as : {x y j k : ℕ} → (x ≡ y) × (j ≡ k) → ◌≡◌ {A = Walk} (record { end = x; links = j }) (record { end = y; links = k })
-walk_as (p, q) = λ i. record { end = p i; links = q i }
+walk_as (p, q) = rw (p, q)
+
+-- what is read off what is found, and not off nothing, is read off what keeps it
+of_kept : {A B : Type 0} (of : Option A → Option B) → of None ≡ None → (o p : Option A) → Keeps o p → Keeps (of o) (of p)
+of_kept of lack None p k b e = cc
+of_kept of lack (Some a) p k b e = rw (k a refl) e
+
+-- an explicit cell is no alias
+no_target : (f : Option Meaning) {dots : ℕ} → cell_of f ≡ Some dots → target_of f ≡ None
+no_target None e = refl
+no_target (Some (Typed n)) e = refl
+no_target (Some (Shown n)) e = refl
+no_target (Some (Alias n)) e = cc
 
 -- G has all that T has, and no walk of either is cut
-module _ (T G : Table) (keep : (c : ℕ) (m : Meaning) → T.found c ≡ Is m → G.found c ≡ Is m) (whole : Whole T) (whole' : Whole G) where
-  -- what is read off what T has for a character, and is not read off none, is read off what G has
-  read_kept : {X : Type 0} (of : Found → X) (v : X) → (of Undefined ≡ v → ⊥) → (c : ℕ) → of (T.found c) ≡ v → of (G.found c) ≡ v
-  read_kept of v unread c = go (T.found c) refl
-    where
-      go : (f : Found) → T.found c ≡ f → of f ≡ v → of (G.found c) ≡ v
-      go Undefined p e = absurd (unread e)
-      go (Is m) p e = rw (keep c m p) e
-
+module _ (T G : Table) (keep : (c : ℕ) → Keeps (T.found c) (G.found c)) (whole : Whole T) (whole' : Whole G) where
   cell_kept : (c : ℕ) → Keeps (explicit T c) (explicit G c)
   unfolding explicit
-  cell_kept c dots e = read_kept cell_of (Dots dots) (λ q. let z : ◌≡◌ {A = ℕ} 0 1 = cc in omega arith) c e
+  cell_kept c = of_kept cell_of refl (T.found c) (G.found c) (keep c)
 
-  alias_kept : (c t : ℕ) → alias_of T c ≡ M.Character t → alias_of G c ≡ M.Character t
+  alias_kept : (c : ℕ) → Keeps (alias_of T c) (alias_of G c)
   unfolding alias_of
-  alias_kept c t e = read_kept target_of (M.Character t) (λ q. let z : ◌≡◌ {A = ℕ} 0 1 = cc in omega arith) c e
+  alias_kept c = of_kept target_of refl (T.found c) (G.found c) (keep c)
 
-  other_kept : (o : Maybe) → Keeps (explicit_of T o) (explicit_of G o)
-  other_kept M.Nothing dots e = e
-  other_kept (M.Character c) dots e = cell_kept c dots e
+  other_kept : (o : Option ℕ) → Keeps (explicit_of T o) (explicit_of G o)
+  other_kept None dots e = e
+  other_kept (Some c) dots e = cell_kept c dots e
 
-  -- an explicit cell is no alias
-  no_alias : (c dots : ℕ) → explicit G c ≡ Dots dots → alias_of G c ≡ M.Nothing
+  no_alias : (c dots : ℕ) → explicit G c ≡ Some dots → alias_of G c ≡ None
   unfolding explicit alias_of
-  no_alias c dots = go (G.found c)
-    where
-      go : (f : Found) → cell_of f ≡ Dots dots → target_of f ≡ M.Nothing
-      go Undefined e = refl
-      go (Is (Typed n)) e = refl
-      go (Is (Shown n)) e = refl
-      go (Is (Alias n)) e = cc
+  no_alias c dots e = no_target (G.found c) e
 
   -- a walk whose end has no alias in G either is the same there
-  walk_same : (c : ℕ) → alias_of G (walk T c).end ≡ M.Nothing → walk G c ≡ walk T c
+  walk_same : (c : ℕ) → alias_of G (walk T c).end ≡ None → walk G c ≡ walk T c
   walk_same c h = walk_as (walk_unique (whole' c) (walk_kept alias_kept h (whole c)))
 
   end_kept : (c : ℕ) → Keeps (end_cell T (walk T c)) (end_cell G (walk G c))
   end_kept c dots h =
-      let k = cell_kept (walk T c).end dots (had (eqb (walk T c).links 0) h) in
-      rw (walk_same c (no_alias (walk T c).end dots k)) (has (eqb (walk T c).links 0) h k)
-    where
-      had : (b : Bool) → pick b Absent (explicit T (walk T c).end) ≡ Dots dots → explicit T (walk T c).end ≡ Dots dots
-      had true g = cc
-      had false g = g
-
-      has : (b : Bool) → pick b Absent (explicit T (walk T c).end) ≡ Dots dots → explicit G (walk T c).end ≡ Dots dots
-          → pick b Absent (explicit G (walk T c).end) ≡ Dots dots
-      has true g k = g
-      has false g k = k
+      by_cases (eqb (walk T c).links 0)
+      (λ q. let e = rw q at h in cc)
+      (λ q.
+      let k = cell_kept (walk T c).end dots (rw q at h) in
+      rw (walk_same c (no_alias (walk T c).end dots k), q) k)
 
   candidates_kept : (c : ℕ) → Kept (candidates T c) (candidates G c)
   unfolding candidates
@@ -150,9 +134,9 @@ module _ (T G : Table) (keep : (c : ℕ) (m : Meaning) → T.found c ≡ Is m �
   unfolding explicit
   same_cell c h = rw h
 
-  same_other : (o : Maybe) → ((c : ℕ) → o ≡ M.Character c → G.found c ≡ T.found c) → explicit_of G o ≡ explicit_of T o
-  same_other M.Nothing h = refl
-  same_other (M.Character c) h = same_cell c (h c refl)
+  same_other : (o : Option ℕ) → ((c : ℕ) → o ≡ Some c → G.found c ≡ T.found c) → explicit_of G o ≡ explicit_of T o
+  same_other None h = refl
+  same_other (Some c) h = same_cell c (h c refl)
 
   same_walk : (c : ℕ) → G.found (walk T c).end ≡ T.found (walk T c).end → walk G c ≡ walk T c
   unfolding alias_of

@@ -1,7 +1,7 @@
--- Demand 3, "Growing a table never spoils an answer": what is claimed of a text, of bytes after it, and of two lent slices, in one local character set.
-use Rattle.std.specs.Prelude.{ℕ, ◌≤◌, ◌<◌, ◌≡◌, true, false, List, [], ◌++◌, length}
+-- Demand 3, "Growing a table never spoils an answer": what is claimed of a text, of bytes after it, and of two lent
+-- slices, in one local character set.
+use Rattle.std.specs.Prelude.{ℕ, ◌≤◌, ◌<◌, ◌≡◌, true, false, List, [], ◌++◌, length, Some}
 use Rattle.basics.specs.Refusals.{answered}
-use Rattle.basics.specs.declared.Maybe.TheVariants.{Character}
 use Rattle.scalars.specs.Characters.{is_scalar, local_of, base_of, stand_in_of}
 use Rattle.lines.specs.Lines.{lines_of, is_ended}
 use Rattle.lines.specs.Texts.{Outcome, accepted, rejected}
@@ -33,8 +33,8 @@ walk_end charset text c = (walk (table (accepting (compiled charset text))) c).e
 -- no added definition is for any of these, c being the character as it stands after rule 2
 pub record Apart (charset : ℕ) (text more : List ℕ) (c : ℕ) : Type 0 where
   pub own : NotAdded charset text more c
-  pub base : (b : ℕ) → base_of c ≡ Character b → NotAdded charset text more b
-  pub stand_in : (s : ℕ) → stand_in_of c ≡ Character s → NotAdded charset text more s
+  pub base : (b : ℕ) → base_of c ≡ Some b → NotAdded charset text more b
+  pub stand_in : (s : ℕ) → stand_in_of c ≡ Some s → NotAdded charset text more s
   pub end : NotAdded charset text more (walk_end charset text c)
   pub replacement : NotAdded charset text more 0xFFFD
   pub question : NotAdded charset text more 0x3F
@@ -53,10 +53,10 @@ pub record Lookups (charset : ℕ) (text more first grown : List ℕ) (c : ℕ) 
 pub record Typings (first grown : List ℕ) : Type 0 where
   pub answers_before : typing_reply first ≡ answered tt
   pub answers_after : typing_reply grown ≡ answered tt
-  pub types_the_same : (cell c : ℕ) → cell < 256 → typed_by first cell ≡ Character c → typed_by grown cell ≡ Character c
+  pub types_the_same : (cell c : ℕ) → cell < 256 → typed_by first cell ≡ Some c → typed_by grown cell ≡ Some c
 
--- a text that compiling accepts and that is empty or ends in LF, bytes after it with which compiling accepts it too, and
--- two slices, of at least 2,050 words or compiling would refuse them
+-- a text that compiling accepts and that is empty or ends in LF, bytes after it with which compiling accepts it too,
+-- and two slices, of at least 2,050 words or compiling would refuse them
 pub record Growing (charset : ℕ) (text more slice slice' : List ℕ) : Type 0 where
   pub ended : is_ended text ≡ true
   pub count : ℕ
@@ -66,5 +66,6 @@ pub record Growing (charset : ℕ) (text more slice slice' : List ℕ) : Type 0 
 
 -- the whole claim, of the two slices as compiled
 pub record NeverSpoils (charset : ℕ) (text more slice slice' : List ℕ) : Type 0 where
-  pub shown : (c : ℕ) → is_scalar c ≡ true → Lookups charset text more (compile_words charset text slice) (compile_words charset (text ++ more) slice') c
+  pub shown : (c : ℕ) → is_scalar c ≡ true
+      → Lookups charset text more (compile_words charset text slice) (compile_words charset (text ++ more) slice') c
   pub typed : Typings (compile_words charset text slice) (compile_words charset (text ++ more) slice')

@@ -1,8 +1,7 @@
 -- The cases that document 01 marks with *, as one table; and when a case comes out.
-use Rattle.std.specs.Prelude.{ℕ, Bool, true, false, not, ◌&&◌, List, [], ◌∷◌, eqb, replicate}
+use Rattle.std.specs.Prelude.{ℕ, Bool, true, false, not, ◌&&◌, List, [], ◌∷◌, eqb, replicate, is_some}
 use Prim.Native.String.{String}
 use Rattle.basics.specs.Ascii.{ascii}
-use Rattle.basics.specs.Choice.{is_character}
 use Rattle.basics.specs.Refusals.{Reply, answered, refused}
 use Rattle.pairs.specs.Words.{table_words}
 use Rattle.rules.specs.declared.Answer.{Answer}
@@ -55,11 +54,12 @@ abbrev pub is_accepted : Reply ℕ → Bool
 is_accepted (answered count) = true
 is_accepted (refused number line) = false
 
--- whether a case comes out as it is written, its text being accepted; the words that a refused one leaves answer no lookup
+-- whether a case comes out as it is written, its text being accepted; the words that a refused one leaves answer no
+-- lookup
 unfoldable pub comes_out : Case → Bool
 comes_out (shows text c cell rule links) = is_answer (lookup_reply (words_for text) c) cell rule links
 comes_out (types_nothing text cell) =
-    is_accepted (compile_reply 1 (ascii text) table_words) && not (is_character (typed_by (words_for text) cell))
+    is_accepted (compile_reply 1 (ascii text) table_words) && not (is_some (typed_by (words_for text) cell))
 comes_out (raises text byte cell) =
     is_accepted (attributes_reply (compiled_attributes (ascii text)))
     && eqb (attribute_cell (outcome_places (compiled_attributes (ascii text))) byte) cell

@@ -1,37 +1,25 @@
 -- The bytes of a listing: what they let a line and a word be.
-use Prim.Native.Nat.{ℕ, zero, suc, ◌+◌, ◌/◌, ◌%◌, ◌<◌}
-use mathlib.Core.Path.{◌≡◌, refl, sym, ap, ◌∙◌}
-use mathlib.Core.Bool.{Bool, true, ◌&&◌, not}
-use mathlib.Core.List.{List, [], ◌∷◌, ◌++◌}
+use Rattle.std.proofs.Common.{◌≡◌, ℕ, zero, suc, ◌+◌, ◌/◌, ◌%◌, ◌<◌, Bool, true, not, ◌&&◌, List, [], ◌∷◌, ◌++◌, length, Ok}
+use Rattle.std.proofs.Common.{refl, sym, ap, ◌∙◌, arith}
+use Rattle.std.specs.List.{list_all}
+use Rattle.std.proofs.lemmas.List.Folds.{list_all-append}
 use native.Mathlib.Nat.{add-zero}
-use native.Mathlib.Omega.{arith}
 use lib.Dec.{ltb, leb}
-use lib.ListN.{length}
 use borrow.Author.Tests.{lt-ltb, ne_eqb, ltb-true, leb-true, not-true}
 use Rattle.basics.proofs.Tests.{both, all_below, below}
 use Rattle.utf8.specs.Utf8.{after_first, utf8_from}
 use Rattle.utf8.specs.declared.Utf8State.TheVariants.{Between}
-use Rattle.utf8.specs.declared.Validity.TheVariants.{Good}
 use Rattle.lines.specs.Lines.{lines_of, without_cr}
 use Rattle.lines.specs.Words.{is_blank, first_from}
 use Rattle.writing.specs.Writing.{hex_digit, hex_digits}
 use Rattle.writing.proofs.Numerals.{digits_length}
 
--- a test of all bytes
-abbrev pub every : (ℕ → Bool) → List ℕ → Bool
-every test [] = true
-every test (b ∷ bs) = test b && every test bs
-
-pub every_append : (test : ℕ → Bool) (xs ys : List ℕ) → every test xs ≡ true → every test ys ≡ true → every test (xs ++ ys) ≡ true
-every_append test [] ys p q = q
-every_append test (x ∷ xs) ys p q = let e = both (test x) (every test xs) p in rw e.0 (every_append test xs ys e.1 q)
-
 -- what holds of each hex digit holds of those of a number
-every_digit : (test : ℕ → Bool) → all_below 16 (λ d. test (hex_digit d)) ≡ true → (k n : ℕ) → every test (hex_digits k n) ≡ true
+every_digit : (test : ℕ → Bool) → all_below 16 (λ d. test (hex_digit d)) ≡ true → (k n : ℕ) → list_all test (hex_digits k n) ≡ true
 unfolding hex_digits
 every_digit test e zero n = refl
 every_digit test e (suc k) n =
-    every_append test (hex_digits k (n / 16)) (hex_digit (n % 16) ∷ []) (every_digit test e k (n / 16)) (rw (below 16 (λ d. test (hex_digit d)) e (n % 16) (omega arith)))
+    rw (list_all-append, every_digit test e k (n / 16), below 16 (λ d. test (hex_digit d)) e (n % 16) (omega arith))
 
 -- ---- a line of ASCII without control bytes
 
@@ -39,11 +27,11 @@ abbrev pub is_plain : ℕ → Bool
 is_plain b = leb 32 b && ltb b 128
 
 abbrev pub Plain : List ℕ → Type 0
-Plain bs = every is_plain bs ≡ true
+Plain bs = list_all is_plain bs ≡ true
 
 plain_byte : (b : ℕ) (bs : List ℕ) → Plain (b ∷ bs) → ((31 < b) × (b < 128)) × Plain bs
 plain_byte b bs p =
-    let e = both (is_plain b) (every is_plain bs) p in
+    let e = both (is_plain b) (list_all is_plain bs) p in
     let f = both (leb 32 b) (ltb b 128) e.0 in
     ((leb-true 32 b f.0, ltb-true b 128 f.1), e.1)
 
@@ -58,7 +46,7 @@ plain_cr [] p = refl
 plain_cr (b ∷ []) p = let e = plain_byte b [] p in rw (ne_eqb b 13 (λ q. omega arith))
 plain_cr (b ∷ c ∷ r) p = ap (λ (x : List ℕ). b ∷ x) (plain_cr (c ∷ r) (plain_byte b (c ∷ r) p).1)
 
-pub plain_utf8 : (l : List ℕ) (i : ℕ) → Plain l → utf8_from l i Between ≡ Good
+pub plain_utf8 : (l : List ℕ) (i : ℕ) → Plain l → utf8_from l i Between ≡ Ok tt
 unfolding utf8_from after_first
 plain_utf8 [] i p = refl
 plain_utf8 (b ∷ l) i p = let e = plain_byte b l p in rw (lt-ltb b 128 e.0.1) (plain_utf8 l (i + 1) e.1)
@@ -72,11 +60,11 @@ digits_plain c = every_digit is_plain refl 8 c
 abbrev is_dark : ℕ → Bool
 is_dark b = not (is_blank b)
 
-word_end : (w r : List ℕ) (i : ℕ) → every is_dark w ≡ true → ((j : ℕ) → first_from true r j ≡ j) → first_from true (w ++ r) i ≡ i + length w
+word_end : (w r : List ℕ) (i : ℕ) → list_all is_dark w ≡ true → ((j : ℕ) → first_from true r j ≡ j) → first_from true (w ++ r) i ≡ i + length w
 unfolding first_from
 word_end [] r i d e = e i ∙ sym (add-zero i)
 word_end (b ∷ w) r i d e =
-    let f = both (is_dark b) (every is_dark w) d in
+    let f = both (is_dark b) (list_all is_dark w) d in
     rw (not-true (is_blank b) f.0) (word_end w r (i + 1) f.1 e ∙ omega arith)
 
 pub digits_end : (c : ℕ) (r : List ℕ) (i : ℕ) → ((j : ℕ) → first_from true r j ≡ j) → first_from true (hex_digits 8 c ++ r) i ≡ i + 8

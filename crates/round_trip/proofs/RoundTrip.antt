@@ -1,10 +1,8 @@
 -- Compiling a listing gives the words that were listed.
-use Prim.Native.Nat.{ℕ, suc, ◌+◌, ◌*◌, ◌≤◌}
-use mathlib.Core.Path.{◌≡◌, refl, ap, ◌∙◌}
-use mathlib.Core.List.{List, [], ◌∷◌, ◌++◌, map, append-nil}
-use native.Mathlib.Omega.{arith}
+use Rattle.std.proofs.Common.{◌≡◌, ℕ, suc, ◌+◌, ◌*◌, ◌≤◌, List, [], ◌∷◌, ◌++◌, length, take, drop, map, Ok}
+use Rattle.std.proofs.Common.{refl, ap, ◌∙◌, length-append, arith}
+use mathlib.Core.List.{append-nil}
 use native.Mathlib.Nat.{add-zero}
-use lib.ListN.{length, take, drop, length-append}
 use lib.Seq.{append_snoc, take_at}
 use borrow.Author.Tests.{le-ltb}
 use Rattle.basics.specs.Refusals.{answered}
@@ -12,7 +10,6 @@ use Rattle.lines.specs.Lines.{lines_of, without_cr}
 use Rattle.lines.specs.Texts.{text_limit, next, accepted, run_lines, run_text}
 use Rattle.definitions.specs.declared.Definition.{Definition}
 use Rattle.definitions.specs.Effects.{verdict_of}
-use Rattle.definitions.specs.declared.Verdict.TheVariants.{Admitted}
 use Rattle.definitions.proofs.Admission.{Admits, admits_limit}
 use Rattle.pairs.specs.Words.{table_words, pairs_of, image_of, charset_of, definitions}
 use Rattle.table.specs.Check.{lent_table}
@@ -33,15 +30,14 @@ module _ (charset : ℕ) where
   listing_lines : (ds : List Definition) → AllInRange ds → lines_of (listing ds) ≡ map line_of ds
   unfolding listing lines_of
   listing_lines [] f = refl
-  listing_lines (d ∷ ds) f =
-      plain_lines (line_of d) (listing ds) (listed_back charset [] d f.0).plain ∙ ap (λ (ls : List (List ℕ)). line_of d ∷ ls) (listing_lines ds f.1)
+  listing_lines (d ∷ ds) f = rw (plain_lines (line_of d) (listing ds) (listed_back charset [] d f.0).plain, listing_lines ds f.1)
 
   listing_short : (ds : List Definition) → AllInRange ds → length (listing ds) ≤ 28 * length ds
   unfolding listing
   listing_short [] f = omega arith
   listing_short (d ∷ ds) f = omega (arith, length-append (line_of d) (10 ∷ listing ds), (listed_back charset [] d f.0).short, listing_short ds f.1)
 
-  step_listed : (ds : List Definition) (n : ℕ) (d : Definition) → InRange d → verdict_of ds d ≡ Admitted → step charset (so ds n) (without_cr (line_of d)) ≡ next (so (ds ++ d ∷ []) (n + 1))
+  step_listed : (ds : List Definition) (n : ℕ) (d : Definition) → InRange d → verdict_of ds d ≡ Ok tt → step charset (so ds n) (without_cr (line_of d)) ≡ next (so (ds ++ d ∷ []) (n + 1))
   unfolding step line_effect
   step_listed ds n d f v = let b = listed_back charset ds d f in rw (plain_cr (line_of d) b.plain, b.reads, v)
 
