@@ -1,40 +1,23 @@
 -- Each way through the reading of a line: what the calls answered, put into the definitions.
-use Rattle.std.proofs.Common.{◌≡◌, refl, ℕ, ◌+◌, ◌-◌, ◌≤◌, ◌<◌, add-one, Bool, true, false, List, [], ◌∷◌, length, get_or, drop, Option, None, Some, Result, Ok, arith}
+use Rattle.std.proofs.Common.{◌≡◌, refl, ℕ, ◌+◌, ◌-◌, ◌≤◌, ◌<◌, add-one, Bool, true, false, List, [], ◌∷◌, length, get_or, drop, Option, None, Some, Result, arith}
 use Rattle.std.specs.Borrow.{Bor}
 use lib.ListN.{drop_of_length-le}
 use lib.Seq.{drop-cons}
-use borrow.Author.Tests.{eq-eqb, ne_eqb}
+use borrow.Author.Tests.{ne_eqb}
 use Rattle.basics.proofs.Tests.{on_result, on_value}
 use Rattle.lines.proofs.Openings.{on_opening}
 use Rattle.basics.specs.Choice.{pick}
-use Rattle.basics.specs.declared.Refusal.TheVariants.{UnknownDirective, MissingOperand, TrailingText}
-use Rattle.lines.specs.Words.{word_at, bytes_of, same_bytes, is_over}
+use Rattle.basics.specs.declared.Refusal.TheVariants.{UnknownDirective}
+use Rattle.lines.specs.Words.{word_at, bytes_of, same_bytes}
+use Rattle.lines.specs.Texts.{fault}
 use Rattle.lines.specs.declared.Word.{Word}
 use Rattle.lines.specs.declared.LineFault.{LineFault}
-use Rattle.attributes.specs.Reader.{attribute_of, state_of, fault, operand_word, ended, dot_at, dot_line}
+use Rattle.attributes.specs.Reader.{attribute_of, state_of, dot_at, dot_line}
 use Rattle.basics.specs.Ascii.{ascii}
 use Rattle.attributes.specs.declared.DotLine.{DotLine}
 use Rattle.attributes.specs.declared.States.TheVariants.{ByAttribute}
 use Rattle.attributes.specs.declared.State.TheVariants.{On, Off}
 use Rattle.attributes.specs.declared.Attribute.{Attribute}
-
--- w is the next word, as a call answered it
-module _ (line : List ℕ) (at : ℕ) (w : Word) (e : w ≡ word_at line at) where
-  pub word_missing : w.start ≡ w.end → fault MissingOperand 0 ≡ operand_word line at
-  unfolding operand_word
-  word_missing q = rw (← e, eq-eqb _ _ q)
-
-  pub word_there : (w.start ≡ w.end → ⊥) → Ok w ≡ operand_word line at
-  unfolding operand_word
-  word_there q = rw (← e, ne_eqb _ _ q)
-
-  pub ended_by_text : (r : Bool) → r ≡ is_over line at → r ≡ false → fault TrailingText (length line - w.start) ≡ ended line at
-  unfolding ended
-  ended_by_text r h q = rw (← e, ← h, q)
-
-pub ended_there : (line : List ℕ) (at : ℕ) (r : Bool) → r ≡ is_over line at → r ≡ true → Ok tt ≡ ended line at
-unfolding ended
-ended_there line at r h q = rw (← h, q)
 
 -- r is what was answered of a name behind a sign
 module _ (w : List ℕ) (sign : ℕ) (name : List ℕ) (is : w ≡ sign ∷ name) (r : Option Attribute) (e : r ≡ attribute_of name) where

@@ -1,14 +1,15 @@
 -- Reading a line of an attributes table: `dot`, a dot number, a state. Faults 5, 6, 8, 9 and 16 as met from left to
 -- right. From behind `dot` on a line of a byte table reads the same, but for two states more.
 use Rattle.std.specs.Prelude.{ℕ, ◌-◌, Bool, ◌&&◌, List, length, get_or, drop, eqb, leb}
-use Rattle.std.specs.Prelude.{Option, None, Some, Result, Ok, Err}
+use Rattle.std.specs.Prelude.{Option, None, Some, Result, Ok}
 use Rattle.basics.specs.Ascii.{ascii}
 use Rattle.basics.specs.Choice.{pick, if_some, if_ok}
-use Rattle.basics.specs.declared.Refusal.{Refusal}
-use Rattle.basics.specs.declared.Refusal.TheVariants.{UnknownDirective, MissingOperand, BadDots, TrailingText, BadState}
+use Rattle.basics.specs.declared.Refusal.TheVariants.{UnknownDirective, BadDots, BadState}
 use Rattle.lines.specs.declared.Word.{Word}
 use Rattle.lines.specs.declared.LineFault.{LineFault}
-use Rattle.lines.specs.Words.{word_at, bytes_of, is_missing, same_bytes, is_over}
+use Rattle.lines.specs.Words.{word_at, bytes_of, same_bytes}
+use Rattle.lines.specs.Texts.{fault}
+use Rattle.operands.specs.Operands.{operand_word, ended}
 use Rattle.attributes.specs.declared.Attribute.{Attribute}
 use Rattle.attributes.specs.declared.Attribute.TheVariants as A
 use Rattle.attributes.specs.declared.State.{State}
@@ -60,19 +61,6 @@ is_dot_number w = eqb (length w) 1 && (leb 49 (get_or w 0 0) && leb (get_or w 0 
 -- and the dot is counted from 0 on
 unfoldable pub dot_number : List ℕ → Option ℕ
 dot_number w = pick (is_dot_number w) (Some (get_or w 0 0 - 49)) None
-
-abbrev pub fault : {A : Type 0} → Refusal → ℕ → Result A LineFault
-fault refusal left = Err (record { refusal = refusal; left = left })
-
--- the next word, which has to be there, else 6 at the line's end
-unfoldable pub operand_word : List ℕ → ℕ → Result Word LineFault
-operand_word line at =
-    let w : Word = word_at line at in
-    pick (is_missing w) (fault MissingOperand 0) (Ok w)
-
--- behind the last operand: nothing, or a comment
-unfoldable pub ended : List ℕ → ℕ → Result Unit LineFault
-ended line at = pick (is_over line at) (Ok tt) (fault TrailingText (length line - (word_at line at).start))
 
 -- behind the dot number
 unfoldable pub state_at : States → List ℕ → ℕ → Result State LineFault

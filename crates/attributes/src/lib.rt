@@ -4,11 +4,11 @@
 
 ghost use Rattle.std.specs.Prelude.{◌≡◌, ◌+◌, ◌≤◌, ◌<◌, length, IfOk, IfSome};
 ghost use Rattle.attributes.specs.Cells.{is_on, is_raised, cell_by, attribute_cell, all_unnamed};
-ghost use Rattle.attributes.specs.Reader.{attribute_of, state_of, fixed_state, state_in, dot_number, operand_word};
-ghost use Rattle.attributes.specs.Reader.{ended, state_at, dot_at, dot_line};
+ghost use Rattle.attributes.specs.Reader.{attribute_of, state_of, fixed_state, state_in, dot_number};
+ghost use Rattle.attributes.specs.Reader.{state_at, dot_at, dot_line};
 ghost use Rattle.attributes.specs.Compile.{is_named, read_dot_line, dot_states, with_dot, dot_step};
 ghost use Rattle.attributes.specs.Compile.{compiled_attributes, attributes_reply, outcome_places};
-ghost use Rattle.attributes.specs.Internal.{DotWithin, WordWithin, text_gives};
+ghost use Rattle.attributes.specs.Internal.{DotWithin, text_gives};
 ghost use Rattle.lines.specs.Lines.{without_cr};
 ghost use Rattle.lines.specs.Texts.{text_limit, outcome_column, compiled_reply, compiled_column};
 ghost use Rattle.lines.specs.Internal.{step_of};
@@ -195,53 +195,20 @@ fn dot_number(w: &[u8]) -> Option<usize>
     }
 }
 
-// The next word from `at` on, as an operand that has to be there.
-#[tactic(auto, using(crate::proofs::Reader::word_there, crate::proofs::Reader::word_missing))]
-pub fn operand_word(line: &[u8], at: usize) -> Result<Word, LineFault>
-    requires { at ≤ length line.now }
-    ensures value { result ≡ operand_word line.now at }
-    ensures within { IfOk result (λ w. WordWithin line.now w) }
-{
-    let w = lines::next_word(line, at);
-    if w.start == w.end {
-        return Err(LineFault {
-            refusal: Refusal::MissingOperand,
-            left: 0,
-        });
-    }
-    Ok(w)
-}
-
-// Behind the last operand: nothing, or a comment.
-#[tactic(auto, using(crate::proofs::Reader::ended_there, crate::proofs::Reader::ended_by_text))]
-pub fn ended(line: &[u8], at: usize) -> Result<(), LineFault>
-    requires { at ≤ length line.now }
-    ensures { result ≡ ended line.now at }
-{
-    if lines::is_over(line, at) {
-        return Ok(());
-    }
-    let w = lines::next_word(line, at);
-    Err(LineFault {
-        refusal: Refusal::TrailingText,
-        left: line.len() - w.start,
-    })
-}
-
 // The state at the end of a line, from behind the dot number on.
 #[tactic(auto, using(crate::proofs::Reader::ways), unfolding(crate::specs::Reader::state_at))]
 fn state_at(states: States, line: &[u8], at: usize) -> Result<State, LineFault>
     requires { at ≤ length line.now }
     ensures { result ≡ state_at states line.now at }
 {
-    let w = operand_word(line, at)?;
+    let w = operands::operand_word(line, at)?;
     let Some(state) = state_in(states, &line[w.start..w.end]) else {
         return Err(LineFault {
             refusal: Refusal::BadState,
             left: line.len() - w.start,
         });
     };
-    ended(line, w.end)?;
+    operands::ended(line, w.end)?;
     Ok(state)
 }
 
@@ -252,7 +219,7 @@ pub fn dot_at(states: States, line: &[u8], at: usize, left: usize) -> Result<Dot
     ensures value { result ≡ dot_at states line.now at left }
     ensures dot_within { IfOk result (λ d. DotWithin d) }
 {
-    let w = operand_word(line, at)?;
+    let w = operands::operand_word(line, at)?;
     let Some(dot) = dot_number(&line[w.start..w.end]) else {
         return Err(LineFault {
             refusal: Refusal::BadDots,

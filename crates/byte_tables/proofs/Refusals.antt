@@ -17,9 +17,8 @@ use Rattle.lines.specs.declared.Opening.{Opening}
 use Rattle.lines.specs.declared.Opening.TheVariants as G
 use Rattle.lines.proofs.Texts.{StopsBy, RefusedBy, run_refused}
 use Rattle.dots.specs.Dots.{dots_at}
-use Rattle.operands.specs.Operands as O
-use Rattle.operands.specs.Operands.{word_operand, dots_fault, dots_operand_at}
-use Rattle.attributes.specs.Reader.{dot_number, state_in, operand_word, ended, state_at, dot_at}
+use Rattle.operands.specs.Operands.{operand_word, ended, dots_fault, dots_operand_at}
+use Rattle.attributes.specs.Reader.{dot_number, state_in, state_at, dot_at}
 use Rattle.attributes.specs.Compile.{is_named, with_dot}
 use Rattle.attributes.specs.declared.State.TheVariants.{Unnamed}
 use Rattle.attributes.specs.declared.States.{States}
@@ -86,8 +85,8 @@ module _ (charset : ℕ) (line : List ℕ) where
   of_cell (Some p) left = tt
 
   of_dots_at : (at : ℕ) → Of (dots_operand_at line at)
-  unfolding dots_operand_at O.operand_word
-  of_dots_at at = of_ok (O.operand_word line at) _ (either Of (is_missing (word_at line at)) refl tt) (λ w. of_cell (dots_at line w.start) (length line - w.start))
+  unfolding dots_operand_at
+  of_dots_at at = of_ok (operand_word line at) _ (of_operand at) (λ w. of_cell (dots_at line w.start) (length line - w.start))
 
   of_byte_line : (at left : ℕ) → Of (byte_line charset line at left)
   unfolding byte_line

@@ -9,8 +9,8 @@ use Rattle.lines.specs.declared.Word.{Word}
 use Rattle.lines.specs.Words.{word_at, bytes_of, same_bytes}
 use Rattle.lines.specs.Texts.{opening_of, if_directive}
 use Rattle.characters.specs.Characters.{backslash, is_escape, byte_of}
-use Rattle.operands.specs.Operands.{word_operand, dots_operand_at}
-use Rattle.attributes.specs.Reader.{operand_word, ended, dot_at}
+use Rattle.operands.specs.Operands.{operand_word, ended, word_operand, dots_operand_at}
+use Rattle.attributes.specs.Reader.{dot_at}
 use Rattle.attributes.specs.declared.States.TheVariants.{WithFixed}
 use Rattle.byte_tables.specs.declared.TableLine.{TableLine}
 use Rattle.byte_tables.specs.declared.TableLine.TheVariants.{Skip, Dot, Byte}

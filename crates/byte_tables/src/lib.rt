@@ -71,7 +71,7 @@ fn byte_at(charset: u32, line: &[u8], at: usize) -> Result<Parsed<u8>, LineFault
     ensures value { result ≡ byte_at charset line.now at }
     ensures byte_within { IfOk result (λ byte. byte.after ≤ length line.now) }
 {
-    let w = attributes::operand_word(line, at)?;
+    let w = operands::operand_word(line, at)?;
     match form_byte(charset, &line[w.start..w.end]) {
         Some(value) => Ok(Parsed {
             value,
@@ -93,7 +93,7 @@ fn byte_line(charset: u32, line: &[u8], at: usize, left: usize) -> Result<TableL
 {
     let byte = byte_at(charset, line, at)?;
     let cell = operands::dots_operand_at(line, byte.after)?;
-    attributes::ended(line, cell.after)?;
+    operands::ended(line, cell.after)?;
     Ok(TableLine::Byte {
         byte: byte.value,
         cell: cell.value,

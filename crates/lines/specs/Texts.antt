@@ -21,6 +21,10 @@ text_limit = 65536
 abbrev pub line_limit : ℕ
 line_limit = 1024
 
+-- a fault at a place so many bytes before the line's end
+abbrev pub fault : {A : Type 0} → Refusal → ℕ → Result A LineFault
+fault refusal left = Err (record { refusal = refusal; left = left })
+
 -- what a line of UTF-8 is: whitespace only or a comment is skipped
 abbrev pub valid_opening : List ℕ → Result Unit BadSequence → Result Opening LineFault
 valid_opening line (Err bad) = Err (record { refusal = NotUtf8; left = length line - bad.start })

@@ -2,7 +2,7 @@
 #![tactic(auto)]
 
 ghost use Rattle.std.specs.Prelude.{◌≡◌, ◌≤◌, ◌<◌, length, IfOk, IfErr};
-ghost use Rattle.operands.specs.Operands.{operand_word, character_at, dots_operand_at, cell_operand_at};
+ghost use Rattle.operands.specs.Operands.{operand_word, ended, character_at, dots_operand_at, cell_operand_at};
 ghost use Rattle.operands.specs.Internal.{OperandWithin};
 
 use basics::Refusal;
@@ -11,7 +11,7 @@ use lines::{LineFault, Parsed, Word};
 
 // The next word from `at` on, with which an operand begins.
 #[tactic(auto, using(crate::proofs::Operands::word_cases), unfolding(crate::specs::Operands::operand_word))]
-fn operand_word(line: &[u8], at: usize) -> Result<Word, LineFault>
+pub fn operand_word(line: &[u8], at: usize) -> Result<Word, LineFault>
     requires { at ≤ length line.now }
     ensures value { result ≡ operand_word line.now at }
     ensures word_order { IfOk result (λ w. w.start < w.end) }
@@ -26,6 +26,22 @@ fn operand_word(line: &[u8], at: usize) -> Result<Word, LineFault>
         });
     }
     Ok(w)
+}
+
+// Behind the last operand: nothing, or a comment.
+#[tactic(auto, using(crate::proofs::Operands::end_cases))]
+pub fn ended(line: &[u8], at: usize) -> Result<(), LineFault>
+    requires { at ≤ length line.now }
+    ensures { result ≡ ended line.now at }
+{
+    if lines::is_over(line, at) {
+        return Ok(());
+    }
+    let w = lines::next_word(line, at);
+    Err(LineFault {
+        refusal: Refusal::TrailingText,
+        left: line.len() - w.start,
+    })
 }
 
 // The next word from `at` on as an operand of that kind, by a local character set.

@@ -20,7 +20,7 @@ use Rattle.lines.specs.declared.Parsed.{Parsed}
 use Rattle.characters.specs.declared.OperandKind.{OperandKind}
 use Rattle.characters.specs.declared.OperandKind.TheVariants.{Character}
 use Rattle.scalars.specs.Characters.{is_operand}
-use Rattle.operands.specs.Operands.{character_at, dots_operand_at, cell_operand_at}
+use Rattle.operands.specs.Operands.{ended, character_at, dots_operand_at, cell_operand_at}
 use Rattle.basics.proofs.Tests.{by_test}
 use Rattle.operands.proofs.InRange.{value_in_range, dots_in_range, cell_operand_in_range}
 use Rattle.blocks.specs.Internal.{RoomFor}
@@ -72,7 +72,11 @@ then P Q (Err fault) more h k = record { value = tt }
 module _ (P : Reading → Type 0) (line : List ℕ) where
   each_finished : (at : ℕ) (reading : Reading) → P reading → Each P (finished line at reading)
   unfolding finished
-  each_finished at reading h = by_test (Each P) (is_over line at) (λ e. record { value = h }) (λ e. record { value = tt })
+  each_finished at reading h = go (ended line at)
+    where
+      go : (r : Result (Unit {0}) LineFault) → Each P (if_ok r (λ u. Ok reading))
+      go (Ok u) = record { value = h }
+      go (Err fault) = record { value = tt }
 
   each_block : (may : Bool) (read : BlockLine) (at left : ℕ) → P (Block read) → Each P (block_line may read line at left)
   unfolding block_line

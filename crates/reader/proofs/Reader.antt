@@ -11,6 +11,7 @@ use Rattle.std.specs.Prelude.{Option, Result, Ok, Err}
 use Rattle.basics.specs.Ascii.{ascii}
 use Rattle.basics.specs.Choice.{if_some, if_ok}
 use Rattle.lines.specs.declared.LineFault.{LineFault}
+use Rattle.lines.specs.Texts.{fault}
 use Rattle.basics.specs.declared.Refusal.TheVariants.{UnknownDirective}
 use Rattle.lines.specs.Words.{word_at, bytes_of, same_bytes}
 use Rattle.lines.specs.declared.Word.{Word}
@@ -19,7 +20,7 @@ use Rattle.blocks.specs.declared.BlockLine.{BlockLine}
 use Rattle.blocks.specs.declared.BlockLine.TheVariants.{Else, EndIf}
 use Rattle.blocks.specs.declared.Around.{Around}
 use Rattle.definitions.specs.declared.Definition.{Definition}
-use Rattle.reader.specs.Reader.{directive_of, fault, after_directive, front_of, without_effect, if_holds, read_from, block_line, read_first}
+use Rattle.reader.specs.Reader.{directive_of, after_directive, front_of, without_effect, if_holds, read_from, block_line, read_first}
 use Rattle.reader.specs.Internal.{FrontWithin}
 use Rattle.reader.specs.declared.Directive.{Directive}
 use Rattle.reader.specs.declared.Reading.{Reading}

@@ -1,18 +1,17 @@
 -- Reading a line: 3, 4, then faults 5 to 10 and 17 as met from left to right. The conditions are judged with the definitions of the lines before;
 -- operands and rule 2 go by the local character set.
-use Rattle.std.specs.Prelude.{ℕ, zero, suc, ◌-◌, Bool, true, false, not, List, length, drop, eqb, Option, None, Some, Result, Ok, Err}
+use Rattle.std.specs.Prelude.{ℕ, zero, suc, ◌-◌, Bool, true, false, not, List, length, drop, eqb, Option, None, Some, Result, Ok}
 use Rattle.std.specs.Bool.{beq}
 use Rattle.basics.specs.Ascii.{ascii}
 use Rattle.basics.specs.Choice.{pick, if_some, if_ok}
-use Rattle.basics.specs.declared.Refusal.{Refusal}
-use Rattle.basics.specs.declared.Refusal.TheVariants.{UnknownDirective, TrailingText, TooManyConditions, StrayBlockWord}
+use Rattle.basics.specs.declared.Refusal.TheVariants.{UnknownDirective, TooManyConditions, StrayBlockWord}
 use Rattle.lines.specs.declared.Word.{Word}
 use Rattle.lines.specs.declared.LineFault.{LineFault}
 use Rattle.lines.specs.Words.{word_at, bytes_of, same_bytes, is_over}
-use Rattle.lines.specs.Texts.{opening_of, if_directive}
+use Rattle.lines.specs.Texts.{fault, opening_of, if_directive}
 use Rattle.characters.specs.declared.OperandKind.{OperandKind}
 use Rattle.characters.specs.declared.OperandKind.TheVariants.{Character, Byte}
-use Rattle.operands.specs.Operands.{character_at, dots_operand_at, cell_operand_at}
+use Rattle.operands.specs.Operands.{ended, character_at, dots_operand_at, cell_operand_at}
 use Rattle.blocks.specs.Blocks.{inert}
 use Rattle.blocks.specs.declared.BlockLine.{BlockLine}
 use Rattle.blocks.specs.declared.BlockLine.TheVariants.{Open, Else, EndIf}
@@ -45,13 +44,9 @@ directive_of w =
     (pick (same_bytes w (ascii "alias")) (Some D.ByAlias)
     (condition_of w))))
 
--- a fault at a place so many bytes before the line's end
-abbrev pub fault : {A : Type 0} → Refusal → ℕ → Result A LineFault
-fault refusal left = Err (record { refusal = refusal; left = left })
-
 -- after the last operand: nothing, or a word that begins with `#`
 unfoldable pub finished : List ℕ → ℕ → Reading → Result Reading LineFault
-finished line at reading = pick (is_over line at) (Ok reading) (fault TrailingText (length line - (word_at line at).start))
+finished line at reading = if_ok (ended line at) (λ u. Ok reading)
 
 abbrev pub define : ℕ → Meaning → ℕ → Reading
 define c meaning left = Define (record { character = c; meaning = meaning }) left

@@ -274,19 +274,13 @@ fn directive_of(w: &[u8]) -> Option<Directive>
 }
 
 // `reading`, or the fault of text behind the last operand.
-#[tactic(auto, using(basics::proofs::Tests::chosen), unfolding(crate::specs::Reader::finished))]
+#[tactic(auto, unfolding(crate::specs::Reader::finished))]
 fn finish(line: &[u8], at: usize, reading: Reading) -> Result<Reading, LineFault>
     requires { at ≤ length line.now }
     ensures { result ≡ finished line.now at reading }
 {
-    if lines::is_over(line, at) {
-        return Ok(reading);
-    }
-    let w = lines::next_word(line, at);
-    Err(LineFault {
-        refusal: Refusal::TrailingText,
-        left: line.len() - w.start,
-    })
+    operands::ended(line, at)?;
+    Ok(reading)
 }
 
 fn dots_meaning(typed: bool, dots: u8) -> Meaning

@@ -16,6 +16,7 @@ use Rattle.definitions.specs.declared.Meaning.{Meaning}
 use Rattle.definitions.specs.declared.Meaning.TheVariants.{Typed, Shown, Alias}
 use Rattle.definitions.specs.declared.Definition.{Definition}
 use Rattle.table.proofs.Readback.{InRange, is_number_in_range}
+use Rattle.operands.specs.Operands as O
 use Rattle.reader.specs.Reader.{condition_of, directive_of, finished, define, dots_meaning, dots_line, alias_line, front_of, read_from, if_holds, read_first, read_line}
 use Rattle.reader.specs.declared.Reading.{Reading}
 use Rattle.reader.specs.declared.Reading.TheVariants.{Define}
@@ -40,7 +41,7 @@ module _ (word o : List ℕ) (c : ℕ) where
 
   -- nothing stands behind its last byte
   ended : (end : ℕ) (reading : Reading) → end ≡ length line → finished line end reading ≡ Ok reading
-  unfolding finished is_over word_at first_at first_from
+  unfolding finished O.ended is_over word_at first_at first_from
   ended end reading e = rw (e, drop-length line, drop-length line, eq-eqb (length line) (length line) refl)
 
 -- its operands, where the word is one of a definition
