@@ -1,32 +1,24 @@
--- What is written for all 256 cells or bytes: each element, the whole buffer, and the calls' answers.
-use Prim.Native.Nat.{ℕ, zero, suc, ◌+◌, ◌^◌, ◌≤◌, ◌<◌}
-use mathlib.Core.Path.{◌≡◌, refl, sym, ap, ◌∙◌}
-use mathlib.Core.List.{List, [], ◌∷◌, map}
-use native.Mathlib.Omega.{arith}
+-- What is written for all 256 cells or bytes: each element, and the whole buffer.
+use Rattle.std.specs.Prelude.{ℕ, zero, suc, ◌+◌, ◌^◌, ◌≤◌, ◌<◌, ◌≡◌, List, [], ◌∷◌, map, Option, length, take, get_or, set}
+use Rattle.std.proofs.Common.{refl, sym, ap, ◌∙◌, arith}
 use lib.Seq.{length-take-le}
-use lib.ListN.{length, take, get_or, set, length-replicate, get_or-replicate}
-use borrow.Author.Tests.{lt-ltb, le-ltb}
-use Rattle.std.specs.Prelude.{Option, Result}
-use Rattle.basics.specs.declared.Refused.{Refused}
-use Rattle.basics.specs.Refusals.{Reply, answered, refused, reply_of}
+use lib.ListN.{length-replicate, get_or-replicate}
+use borrow.Author.Tests.{le-ltb}
+use Rattle.basics.specs.Refusals.{Reply, answered, refused}
 use Rattle.basics.proofs.Tests.{either}
 use Rattle.basics.specs.Buffers.{over}
-use Rattle.lines.specs.Texts.{compiled_reply}
-use Rattle.lines.specs.declared.Rejection.{Rejection}
 use Rattle.definitions.specs.declared.Definition.{Definition}
 use Rattle.definitions.specs.Definitions.{types, typed_in}
 use Rattle.table.specs.Check.{lent_table}
 use Rattle.table.proofs.Readback.{AllInRange, operand_small, lent_in_range}
 use Rattle.lookup.proofs.Buffers.{filled_to, filled_more, filled_all}
-use Rattle.typing.specs.Typing.{nothing, entries_by, typing_reply, typing_entries}
+use Rattle.typing.specs.Typing.{nothing, entries_by, typing_entries}
 use Rattle.typing.proofs.TypedCells.{entry_types, entries_length}
 use Rattle.attributes.specs.declared.State.{State}
 use Rattle.attributes.specs.Cells.{attribute_cell}
-use Rattle.attributes.specs.Compile.{compiled_attributes, attributes_reply, outcome_places}
 use Rattle.byte_tables.specs.Compile.{compiled_bytes, outcome_cells}
-use Rattle.codes.specs.Codes.{refusal_code, code_of, character_code, cell_count, with_room, column_with_room, after, entry_code, entries_after, numbers_from, cells_of, cells_after, byte_cells_after}
+use Rattle.codes.specs.Codes.{character_code, cell_count, numbers_from, byte_cells_after}
 use Rattle.codes.specs.Internal.{EntriesFit}
-use Rattle.codes.proofs.Codes.{code_of_lem}
 
 -- ---- the elements one after another
 
@@ -37,9 +29,6 @@ module _ {A : Type 0} (f : A → ℕ) (l : List A) (size : length l ≡ cell_cou
 
   pub all_over : i ≤ cell_count → cell_count ≤ i → new ≡ over (map f l) old
   all_over h k = filled_all f l old i (omega arith) (omega arith) e
-
-pub entry_fits : (es : List (Option ℕ)) (i : ℕ) {v : ℕ} → EntriesFit es → i < cell_count → v ≡ entry_code (get_or es i nothing) → v < 2 ^ 32
-entry_fits es i f h p = rw p (f.each i h)
 
 -- ---- numbers one after another
 
@@ -89,41 +78,8 @@ entries_fit ws e = rw e (go (lent_table ws) refl)
       each = λ cell h. rw (get_or-replicate cell_count cell nothing nothing h) (omega arith);
     }
 
--- ---- what the calls answer and leave
+-- ---- what the byte table's call leaves
 
--- a short buffer; x is what the table itself would answer
-pub short_code : {B : Type 0} (code : B → ℕ) (x : Reply B) {k room r : ℕ} → room < cell_count → k ≡ 0 → r ≡ refusal_code 2 0 0 → r ≡ code_of code k (with_room room x)
-short_code code x {room = room} short c e = rw (lt-ltb room cell_count short, c) e
-
-pub short_column : (column : ℕ) {room : ℕ} → room < cell_count → column_with_room room column ≡ 0
-short_column column short = rw (lt-ltb _ _ short)
-
-pub short_left : {B : Type 0} (x : Reply B) (new old : List ℕ) → length old < cell_count → old ≡ after (with_room (length old) x) new old
-short_left x new old short = rw (lt-ltb (length old) cell_count short)
-
--- a buffer with room; v, the answer of the table's call, stands for x and is the case w
-pub long_code : {A B : Type 0} (reply : A → Reply B) (column : A → ℕ) (code : B → ℕ) {v w : A} {x : Reply B} {k room r : ℕ} → cell_count ≤ room → reply v ≡ x → column v ≡ k → v ≡ w
-    → r ≡ code_of code (column w) (reply w) → r ≡ code_of code k (with_room room x)
-long_code reply column code {room = room} long p c q e = rw (le-ltb room cell_count long) (code_of_lem reply column code p c q e)
-
-pub long_column : {column room k : ℕ} → cell_count ≤ room → k ≡ column → k ≡ column_with_room room column
-long_column long c = rw (le-ltb _ _ long) c
-
-long_left : {A B : Type 0} (reply : A → Reply B) {v w : A} {x : Reply B} (new old : List ℕ) {left : List ℕ} → cell_count ≤ length old → reply v ≡ x → v ≡ w
-    → left ≡ after (reply w) new old → left ≡ after (with_room (length old) x) new old
-long_left reply new old long p q e = rw (le-ltb (length old) cell_count long, ← p, q) e
-
-pub entries_left : (ws : List ℕ) {v w : Result Unit Refused} {es : List (Option ℕ)} (old : List ℕ) {left : List ℕ} → cell_count ≤ length old → reply_of v ≡ typing_reply ws → es ≡ typing_entries ws → v ≡ w
-    → left ≡ after (reply_of w) (map entry_code es) old → left ≡ entries_after ws old
-entries_left ws old long p from q e = long_left reply_of (map entry_code (typing_entries ws)) old long p q (rw from at e)
-
-pub cells_left : (text : List ℕ) {v w : Result ℕ Rejection} {places : List State} (old : List ℕ) {left : List ℕ} → cell_count ≤ length old → compiled_reply v ≡ attributes_reply (compiled_attributes text)
-    → places ≡ outcome_places (compiled_attributes text) → v ≡ w → left ≡ after (compiled_reply w) (cells_of places) old → left ≡ cells_after text old
-cells_left text old long p from q e = long_left compiled_reply (cells_of (outcome_places (compiled_attributes text))) old long p q (rw from at e)
-
--- the cells of a byte table are written also where its text is refused
-pub bytes_short : (charset : ℕ) (text old : List ℕ) → length old < cell_count → old ≡ byte_cells_after charset text old
-bytes_short charset text old short = rw (lt-ltb (length old) cell_count short)
-
+-- its cells are written also where its text is refused
 pub bytes_left : (charset : ℕ) (text : List ℕ) {all : List ℕ} (old : List ℕ) {left : List ℕ} → cell_count ≤ length old → all ≡ outcome_cells (compiled_bytes charset text) → left ≡ over all old → left ≡ byte_cells_after charset text old
 bytes_left charset text old long from e = rw (le-ltb (length old) cell_count long, ← from) e
