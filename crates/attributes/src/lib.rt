@@ -308,11 +308,7 @@ fn read_text(text: &[u8]) -> Result<DotStates, Rejection>
     ensures { text_gives result ≡ compiled_attributes text.now }
 {
     if TEXT_LIMIT < text.len() {
-        return Err(Rejection {
-            refusal: Refusal::TextTooLong,
-            line: 0,
-            column: 0,
-        });
+        return Err(Refusal::TextTooLong.into());
     }
     let mut states = DotStates::new();
     let mut line = 1;

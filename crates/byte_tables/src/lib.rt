@@ -212,18 +212,10 @@ fn read_text(charset: u32, text: &[u8]) -> Result<SoFar, Rejection>
     ensures { text_gives result ≡ compiled_bytes charset text.now }
 {
     if !scalars::is_charset(charset) {
-        return Err(Rejection {
-            refusal: Refusal::UnknownCharset,
-            line: 0,
-            column: 0,
-        });
+        return Err(Refusal::UnknownCharset.into());
     }
     if TEXT_LIMIT < text.len() {
-        return Err(Rejection {
-            refusal: Refusal::TextTooLong,
-            line: 0,
-            column: 0,
-        });
+        return Err(Refusal::TextTooLong.into());
     }
     let mut table = SoFar::new();
     let mut line = 1;

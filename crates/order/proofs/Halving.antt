@@ -9,8 +9,6 @@ use lib.ListN.{length, get_or, take}
 use lib.Seq.{get_or-take, length-take-le}
 use borrow.Author.Tests.{eqb-true, eqb-false, ltb-true, ltb-false, eq-eqb, ne_eqb, lt-ltb, le-ltb}
 use Rattle.std.specs.Prelude.{Result, Ok, Err}
-use Rattle.std.proofs.Common.{Ordering, Less, Equal, Greater, nat_cmp}
-use Rattle.std.proofs.lemmas.Cmp.{ranked}
 use Rattle.basics.proofs.Tests.{by_cases, by_test, either}
 use Rattle.order.specs.declared.Halved.{Halved}
 use Rattle.order.specs.Order.{character, at_place, none_at, after, halved, searched}
@@ -177,29 +175,25 @@ module _ (ws os : List ℕ) (c n low left k : ℕ) (x : Halved) (inv : x ≡ aft
   pub search_over : left ≤ 0 → record { place = Err low; comparisons = k } ≡ x
   search_over h = let none : left ≡ 0 = omega arith in sym (inv ∙ rw (none, none_found (at_place ws os) c (n - k) low, add-zero k))
 
-  module _ (some : 0 < left) (r : Ordering) (compared : r ≡ nat_cmp (at_place ws os (low + (left - 1) / 2)) c) where
+  module _ (some : 0 < left) where
     abbrev mid : ℕ
     mid = at_place ws os (low + (left - 1) / 2)
 
     budget_left : n - k ≡ suc (n - (k + 1))
     budget_left = omega arith
 
-    pub search_hit : r ≡ Equal → record { place = Ok (low + (left - 1) / 2); comparisons = k + 1 } ≡ x
+    pub search_hit : mid ≡ c → record { place = Ok (low + (left - 1) / 2); comparisons = k + 1 } ≡ x
     unfolding halved
-    search_hit e =
-        let same = rw e at (ranked mid c r compared) in
-        sym (inv ∙ rw (budget_left, ne_eqb left 0 (λ q. omega arith), eq-eqb mid c same))
+    search_hit same = sym (inv ∙ rw (budget_left, ne_eqb left 0 (λ q. omega arith), eq-eqb mid c same))
 
-    pub search_above : r ≡ Less → x ≡ after (k + 1) (halved (at_place ws os) c (n - (k + 1)) (low + (left - 1) / 2 + 1) (left - ((left - 1) / 2 + 1)))
+    pub search_above : mid < c → x ≡ after (k + 1) (halved (at_place ws os) c (n - (k + 1)) (low + (left - 1) / 2 + 1) (left - ((left - 1) / 2 + 1)))
     unfolding halved
-    search_above e =
-        let less = rw e at (ranked mid c r compared) in
+    search_above less =
         inv ∙ rw (budget_left, ne_eqb left 0 (λ q. omega arith), ne_eqb mid c (λ q. omega arith), lt-ltb mid c less) (counted _ (omega arith))
 
-    pub search_below : r ≡ Greater → x ≡ after (k + 1) (halved (at_place ws os) c (n - (k + 1)) low ((left - 1) / 2))
+    pub search_below : (mid ≡ c → ⊥) → c ≤ mid → x ≡ after (k + 1) (halved (at_place ws os) c (n - (k + 1)) low ((left - 1) / 2))
     unfolding halved
-    search_below e =
-        let more = rw e at (ranked mid c r compared) in
-        inv ∙ rw (budget_left, ne_eqb left 0 (λ q. omega arith), ne_eqb mid c (λ q. omega arith), le-ltb mid c (omega arith)) (counted _ (omega arith))
+    search_below other more =
+        inv ∙ rw (budget_left, ne_eqb left 0 (λ q. omega arith), ne_eqb mid c other, le-ltb mid c (omega arith)) (counted _ (omega arith))
 
 pub ruleset turns = (search_over, search_hit, search_above, search_below)

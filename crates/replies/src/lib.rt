@@ -43,7 +43,7 @@ pub fn looked_text(answer: Result<Answer, Refused>) -> Text {
 pub fn type_text(words: &[u32], cell: u8) -> Text {
     let types = typing::typed_entries(words);
     match types.answer {
-        Ok(()) => match types.entries[cell as usize] {
+        Ok(()) => match types.entries[usize::from(cell)] {
             Some(c) => Text::of(format_args!("{c:X}")),
             None => Text::of("nothing"),
         },

@@ -26,7 +26,7 @@ fn fill_entries(pairs: Pairs<'_>) -> [Option<u32>; 256]
     let mut entries = [None; 256];
     for i in 0..pairs.count {
         if let Meaning::Typed(dots) = pairs::meaning_of(pairs.words[2 * i + 1]) {
-            let at = dots as usize;
+            let at = usize::from(dots);
             if entries[at].is_none() {
                 entries[at] = Some(pairs.words[2 * i]);
             }

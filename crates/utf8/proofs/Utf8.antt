@@ -9,7 +9,7 @@ use lib.Dec.{ltb, leb}
 use lib.Bits.{bit_or}
 use borrow.Author.Tests.{lt-ltb, ltb-true, ltb-false, le-leb, lt-leb}
 use native.Mathlib.Nat.{add-zero}
-use Rattle.std.specs.List.{fold, position, position_or_len}
+use Rattle.std.specs.List.{position, position_or_len}
 use Rattle.std.specs.Option.{unwrap_or}
 use Rattle.utf8.proofs.Positions.{end_of, first_from, first_within}
 use Rattle.basics.specs.Internal.{bits_with, bits_of}
@@ -26,12 +26,6 @@ use Rattle.std.specs.Prelude.{Option, Result, Ok, Err}
 pub byte_on : {x : Result Unit BadSequence} (line : List ℕ) (i : ℕ) (p q : Utf8State) → utf8_from (drop i line) i p ≡ x → i < length line → q ≡ after_byte p (get_or line i 0) i → utf8_from (drop (i + 1) line) (i + 1) q ≡ x
 unfolding utf8_from
 byte_on line i p q inv h e = next_element utf8_from line i p inv h (rw e)
-
--- the bits of a line, as a fold
-pub bits_fold : (bs : List ℕ) (bits : ℕ) → fold bit_or bits bs ≡ bits_with bs bits
-unfolding bits_with
-bits_fold [] bits = refl
-bits_fold (b ∷ bs) bits = bits_fold bs (bit_or bits b)
 
 -- the run of ASCII bytes ends at the first byte that is none, or at the end
 ascii_end_lem : (bs : List ℕ) (i : ℕ) → ascii_end bs i ≡ i + position_or_len (λ b. leb 0x80 b) bs

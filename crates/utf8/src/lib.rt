@@ -117,7 +117,7 @@ fn resume(line: &[u8], at: usize, p: Utf8State) -> usize
 
 // The bits that the bytes of a line have between them, below 0x80 if all are ASCII. It goes to the line's end at once,
 // so that it is compiled to take several bytes at a time.
-#[tactic(auto, using(crate::proofs::Utf8::bits_fold))]
+#[tactic(auto, using(basics::proofs::Bits::bits_fold))]
 fn bits_of(line: &[u8]) -> u8
     ensures { result ≡ bits_of line.now }
 {

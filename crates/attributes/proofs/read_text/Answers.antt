@@ -4,7 +4,7 @@ use Rattle.attributes.proofs.Compile.{long_text, come_first, no_lines, refused_a
 use Rattle.attributes.proofs.read_text.Goals as goal
 
 pub returns-then-text-gt-TEXT_LIMIT : goal.returns-then-text-gt-TEXT_LIMIT
-returns-then-text-gt-TEXT_LIMIT c = search long_text
+returns-then-text-gt-TEXT_LIMIT c = rw c.into.ensures (search long_text)
 
 pub loop-at-init : goal.loop-at-init
 loop-at-init c = (search (no_lines, rules), search rules, search come_first)

@@ -4,10 +4,10 @@ use Rattle.byte_tables.proofs.Compile.{no_set, long_text, come_first, none_yet, 
 use Rattle.byte_tables.proofs.read_text.Goals as goal
 
 pub returns-then-not-is_charset : goal.returns-then-not-is_charset
-returns-then-not-is_charset c = search no_set
+returns-then-not-is_charset c = rw c.into.ensures (search no_set)
 
 pub returns-then-text-gt-TEXT_LIMIT : goal.returns-then-text-gt-TEXT_LIMIT
-returns-then-text-gt-TEXT_LIMIT c = search long_text
+returns-then-text-gt-TEXT_LIMIT c = rw c.into-then-text-gt-TEXT_LIMIT.ensures (search long_text)
 
 pub loop-at-init : goal.loop-at-init
 loop-at-init c = (search (none_yet, rules), search (none_yet, rules), search rules, search come_first)
