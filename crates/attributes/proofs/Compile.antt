@@ -3,11 +3,10 @@ use Rattle.std.proofs.Common.{◌≡◌, sym, ℕ, ◌+◌, ◌-◌, ◌≤◌, 
 use borrow.Author.Tests.{lt-ltb}
 use Rattle.basics.specs.declared.Refusal.TheVariants.{TextTooLong, LineTooLong}
 use Rattle.lines.specs.Lines.{without_cr}
-use Rattle.lines.specs.Texts.{text_limit, line_limit, opening_of, Step, next, stop, Outcome, rejected, outcome_column, rejection_of}
+use Rattle.lines.specs.Texts.{text_limit, line_limit, opening_of, Step, next, stop, rejected, outcome_column}
 use Rattle.lines.specs.Internal.{step_of}
 use Rattle.lines.specs.declared.LineFault.{LineFault}
-use Rattle.lines.specs.declared.Rejection.{Rejection}
-use Rattle.lines.proofs.Texts.{Reached, outcome_of, text_first, text_long, run_column}
+use Rattle.lines.proofs.Texts.{Reached, text_first, text_long, run_column}
 use Rattle.attributes.specs.Cells.{all_unnamed}
 use Rattle.attributes.specs.Compile.{dot_states, read_dot_line, with_dot, with_dot_line, dot_step, compiled_attributes}
 use Rattle.attributes.specs.declared.DotStates.{DotStates}
@@ -40,11 +39,6 @@ come_first text f short e = rw e (text_first dot_step (dot_states all_unnamed 0)
 
 pub no_lines : (f : DotStates) → f ≡ dot_states all_unnamed 0 → f.lines ≤ 0
 no_lines f e = rw e (omega arith)
-
--- what the code answered of a fault
-pub refused_as : (whole : Outcome DotStates) (here : List ℕ) (n : ℕ) (fault : LineFault) (e : Rejection) → e ≡ rejection_of fault here n → whole ≡ outcome_of (rejection_of fault here n)
-    → rejected e.refusal e.line e.column ≡ whole
-refused_as whole here n fault e q h = rw (q, h)
 
 step_long : (f : DotStates) (line : List ℕ) → line_limit < length line → dot_step f line ≡ stop LineTooLong (length line - line_limit)
 unfolding dot_step read_dot_line opening_of

@@ -153,7 +153,8 @@ pub fn look_up_by(words: &[u32], order: &[u32], c: u32) -> Result<Answer, Refuse
     Ok(answer_in(&in_order, c))
 }
 
-// Fills both buffers, a cell and a rule for each character, with answers that are kept on the way.
+// Fills both buffers, a cell and a rule for each character, with answers that are kept on the way. The loop is that of
+// `lookup::fill` but for its memory, which each character may change.
 fn fill_kept<T: Finder + Copy>(
     memory: &mut Memory<T>,
     characters: &[u32],

@@ -4,11 +4,10 @@ use borrow.Author.Tests.{lt-ltb, not-true, not-false}
 use Rattle.basics.proofs.Tests.{told, by_cases}
 use Rattle.basics.specs.declared.Refusal.TheVariants.{AlreadyDefined, TextTooLong, LineTooLong, UnknownCharset}
 use Rattle.scalars.specs.Characters.{is_charset}
-use Rattle.lines.specs.Texts.{text_limit, line_limit, opening_of, Step, next, stop, Outcome, rejected, run_text, outcome_column, rejection_of}
+use Rattle.lines.specs.Texts.{text_limit, line_limit, opening_of, Step, next, stop, rejected, run_text, outcome_column, rejection_of}
 use Rattle.lines.specs.Lines.{without_cr}
 use Rattle.lines.specs.Internal.{LineEnd, step_of}
 use Rattle.lines.specs.declared.LineFault.{LineFault}
-use Rattle.lines.specs.declared.Rejection.{Rejection}
 use Rattle.lines.proofs.Texts.{Reached, outcome_of, line_read, line_refused, text_first, text_long, run_column}
 use Rattle.attributes.specs.Compile.{with_dot}
 use Rattle.attributes.specs.declared.DotStates.{DotStates}
@@ -78,11 +77,6 @@ module _ (charset : ℕ) (text : List ℕ) (at n : ℕ) (s : SoFar) (here : Reac
 
 pub none_yet : (s : SoFar) → s ≡ begun → (s.dots.lines ≤ 0) × (s.count ≤ 0)
 none_yet s e = rw e (omega arith, omega arith)
-
--- what the code answered of a fault
-pub refused_as : (whole : Outcome SoFar) (here : List ℕ) (n : ℕ) (fault : LineFault) (e : Rejection) → e ≡ rejection_of fault here n → whole ≡ outcome_of (rejection_of fault here n)
-    → rejected e.refusal e.line e.column ≡ whole
-refused_as whole here n fault e q h = rw (q, h)
 
 step_long : (charset : ℕ) (s : SoFar) (line : List ℕ) → line_limit < length line → step charset s line ≡ stop LineTooLong (length line - line_limit)
 unfolding step read_table_line opening_of

@@ -86,6 +86,12 @@ module _ {S : Type 0} (step : S → List ℕ → Step S) where
 abbrev pub outcome_of : {S : Type 0} → Rejection → Outcome S
 outcome_of e = rejected e.refusal e.line e.column
 
+-- what the code answered of a fault
+pub refused_as : {S : Type 0} (whole : Outcome S) (here : List ℕ) (n : ℕ) (fault : LineFault) (e : Rejection)
+    → e ≡ rejection_of fault here n → whole ≡ outcome_of (rejection_of fault here n)
+    → rejected e.refusal e.line e.column ≡ whole
+refused_as whole here n fault e q h = rw (q, h)
+
 -- where a loop over the lines of a text has come to: what the text still gives, from the state s before line n, which begins at `at`
 pub record Reached {S : Type 0} (step : S → List ℕ → Step S) (text : List ℕ) (whole : Outcome S) (at n : ℕ) (s : S) : Type 0 where
   pub within : at ≤ length text + 1

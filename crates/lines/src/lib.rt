@@ -14,7 +14,8 @@ pub const TEXT_LIMIT: usize = 65536;
 
 const LINE_LIMIT: usize = 1024;
 
-// A word of a line: the position of its first byte and the one after its last; equal where there is no word.
+// A word of a line: the position of its first byte and the one after its last; equal where there is no word. It is no
+// `Option`: the place of a word that is missing, the line's end, is told too.
 #[derive(Clone, Copy)]
 pub struct Word {
     pub start: usize,
@@ -112,7 +113,8 @@ pub fn is_blank(b: u8) -> bool
     b == b' ' || b == b'\t'
 }
 
-// The next word from `at` on: empty, at the line's end, where there is none.
+// The next word from `at` on: empty, at the line's end, where there is none. A line and a place in it are passed on by
+// themselves: the place is another at each call, so a struct of both would be made anew before each.
 pub fn next_word(line: &[u8], at: usize) -> Word
     requires { at ≤ length line.now }
     ensures { NextWord line.now at result }

@@ -10,6 +10,7 @@ use lib.Seq.{take_all}
 use Rattle.std.specs.Prelude.{Option, Result, Ok, Err}
 use Rattle.basics.specs.Ascii.{ascii}
 use Rattle.basics.specs.Choice.{if_some, if_ok}
+use Rattle.basics.proofs.Tests.{chosen}
 use Rattle.lines.specs.declared.LineFault.{LineFault}
 use Rattle.lines.specs.Texts.{fault}
 use Rattle.basics.specs.declared.Refusal.TheVariants.{UnknownDirective}
@@ -82,6 +83,8 @@ read_further charset ds (suc room) line holds rest more r e p g z = z ∙ rw (�
 -- a block behind a failed condition
 pub inert_block : {reading : Reading} {read made : BlockLine} → reading ≡ Block read → made ≡ inert read → Block made ≡ without_effect reading
 inert_block q e = rw (q, e)
+
+pub ruleset unmet = (chosen, inert_block)
 
 -- w is the first word, a and b are what calls answered of it
 module _ (charset : ℕ) (ds : List Definition) (around : Around) (line : List ℕ) (w : Word) (r : Result Reading LineFault) (a : Bool) (e : w ≡ word_at line 0) (p : a ≡ same_bytes (bytes_of line w) (ascii "else")) where

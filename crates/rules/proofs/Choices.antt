@@ -7,7 +7,7 @@ use native.Mathlib.Nat.{add-zero}
 use native.Mathlib.Omega.{arith}
 use lib.Dec.{eqb}
 use lib.ListN.{length}
-use Rattle.basics.proofs.Tests.{told, by_cases, same_twice}
+use Rattle.basics.proofs.Tests.{told, by_cases, same_twice, on_value}
 use Rattle.basics.specs.Choice.{pick}
 use Rattle.std.specs.Prelude.{Option, None, Some}
 use Rattle.scalars.specs.Characters.{is_private, local_of}
@@ -45,6 +45,8 @@ rules_chosen T c = choose_chosen 3 (candidates T c) (walk T c).links
 -- the explicit cell of a character that a call answered
 pub asked : (T : Table) {m o : Option ℕ} {r : Option ℕ} → m ≡ o → r ≡ explicit_of T m → r ≡ explicit_of T o
 asked T p q = rw (← p) q
+
+pub ruleset later = (on_value, asked)
 
 -- rules 3 and 4 as the walk of a character decides them; w is what a call answered of it
 module _ (T : Table) (c : ℕ) (w : Walked) (from : w ≡ walk_with_cell T c) where
@@ -85,6 +87,8 @@ module _ (p t : Bool) (a : Answer) (e : p ≡ t) where
 pub rule_passed_on : (charset : ℕ) (T : Table) (last : LastCells) (c l : ℕ) (a : Answer) {r : Answer} → l ≡ local_of charset c → a ≡ rules_by T last l → r ≡ passed (is_private c) a
     → r ≡ passed (is_private c) (rules_by T last (local_of charset c))
 rule_passed_on charset T last c l a local others e = e ∙ rw (others, local)
+
+pub ruleset answering = (rule_fits, rule_passed_on)
 
 -- both at once
 module _ (charset : ℕ) (T : Table) (last : LastCells) (c l : ℕ) (p : Bool) (a : Answer) (local : l ≡ local_of charset c) (others : a ≡ rules_by T last l) (private : p ≡ is_private c) where
