@@ -13,7 +13,8 @@ use Rattle.attributes.specs.declared.DotStates.{DotStates}
 use Rattle.attributes.specs.declared.DotLine.{DotLine}
 
 -- read is what was answered of a line, x what the states after it
-module _ (f : DotStates) (line : List ℕ) (n : ℕ) (read : Result (Option DotLine) LineFault) (c : take n line ≡ without_cr line) (e : read ≡ read_dot_line (take n line)) where
+module _ (f : DotStates) (line : List ℕ) (n : ℕ) (read : Result (Option DotLine) LineFault) (c : take n line ≡ without_cr line)
+    (e : read ≡ read_dot_line (take n line)) where
   step_read : {x : Step DotStates} → x ≡ with_dot_line f read → x ≡ dot_step f (without_cr line)
   unfolding dot_step
   step_read h = rw (← c, ← e) h
@@ -24,7 +25,8 @@ module _ (f : DotStates) (line : List ℕ) (n : ℕ) (read : Result (Option DotL
   pub line_fault : (x : Result DotStates LineFault) (fault : LineFault) → read ≡ Err fault → x ≡ Err fault → step_of x ≡ dot_step f (without_cr line)
   line_fault x fault q p = step_read (rw (q, p))
 
-  pub line_dot : (x : Result DotStates LineFault) (o : Option DotLine) (d : DotLine) → read ≡ Ok o → o ≡ Some d → step_of x ≡ with_dot f d → step_of x ≡ dot_step f (without_cr line)
+  pub line_dot : (x : Result DotStates LineFault) (o : Option DotLine) (d : DotLine) → read ≡ Ok o → o ≡ Some d → step_of x ≡ with_dot f d
+      → step_of x ≡ dot_step f (without_cr line)
   line_dot x o d q z p = step_read (rw (q, z) p)
 
 pub ruleset on_line = (line_fault, line_skip, line_dot)
@@ -33,7 +35,8 @@ pub long_text : (text : List ℕ) → text_limit < length text → rejected Text
 unfolding compiled_attributes
 long_text text h = sym (text_long dot_step (dot_states all_unnamed 0) text h)
 
-pub come_first : (text : List ℕ) (f : DotStates) → length text ≤ text_limit → f ≡ dot_states all_unnamed 0 → Reached dot_step text (compiled_attributes text) 0 1 f
+pub come_first : (text : List ℕ) (f : DotStates) → length text ≤ text_limit → f ≡ dot_states all_unnamed 0
+    → Reached dot_step text (compiled_attributes text) 0 1 f
 unfolding compiled_attributes
 come_first text f short e = rw e (text_first dot_step (dot_states all_unnamed 0) text short)
 

@@ -84,14 +84,16 @@ module _ (p t : Bool) (a : Answer) (e : p ≡ t) where
   other_passed is = rw (told e is, add-zero)
 
 -- what the other rules answer, of the character as it stands then
-pub rule_passed_on : (charset : ℕ) (T : Table) (last : LastCells) (c l : ℕ) (a : Answer) {r : Answer} → l ≡ local_of charset c → a ≡ rules_by T last l → r ≡ passed (is_private c) a
+pub rule_passed_on : (charset : ℕ) (T : Table) (last : LastCells) (c l : ℕ) (a : Answer) {r : Answer} → l ≡ local_of charset c → a ≡ rules_by T last l
+    → r ≡ passed (is_private c) a
     → r ≡ passed (is_private c) (rules_by T last (local_of charset c))
 rule_passed_on charset T last c l a local others e = e ∙ rw (others, local)
 
 pub ruleset answering = (rule_fits, rule_passed_on)
 
 -- both at once
-module _ (charset : ℕ) (T : Table) (last : LastCells) (c l : ℕ) (p : Bool) (a : Answer) (local : l ≡ local_of charset c) (others : a ≡ rules_by T last l) (private : p ≡ is_private c) where
+module _ (charset : ℕ) (T : Table) (last : LastCells) (c l : ℕ) (p : Bool) (a : Answer) (local : l ≡ local_of charset c)
+    (others : a ≡ rules_by T last l) (private : p ≡ is_private c) where
   pub rule_passed : p ≡ true → record { cell = a.cell; rule = a.rule + 16; links = a.links } ≡ passed (is_private c) (rules_by T last (local_of charset c))
   rule_passed is = rw (told private is, others, local)
 
@@ -99,7 +101,8 @@ module _ (charset : ℕ) (T : Table) (last : LastCells) (c l : ℕ) (p : Bool) (
   rule_others is = rw (told private is, others, local, add-zero)
 
 -- the cells of rules 7 and 8, as two calls answered them
-pub both_asked : (T : Table) {replacement question : Option ℕ} → replacement ≡ explicit T 0xFFFD → question ≡ explicit T 0x3F → record { replacement = replacement; question = question } ≡ last_cells T
+pub both_asked : (T : Table) {replacement question : Option ℕ} → replacement ≡ explicit T 0xFFFD → question ≡ explicit T 0x3F
+    → record { replacement = replacement; question = question } ≡ last_cells T
 both_asked T p q = rw (p, q)
 
 -- with the table's own cells for rules 7 and 8 the rules are those of the papers
