@@ -67,7 +67,7 @@ module _ (x : ℕ) (unnamed : Bool) (places : List State) (byte cell i : ℕ) (s
       let raised : Bool = is_raised unnamed (get_or places i Unnamed) byte in
       let k : i < length places = omega arith in
       let more : x ≡ cell + (pick raised (2 ^ i) 0 + cell_from unnamed (drop (i + 1) places) byte (i + 1)) =
-          here.left ∙ rw (drop-cons places i Unnamed, add-one i) in
+      here.left ∙ rw (drop-cons places i Unnamed, add-one i) in
       let double : 2 ^ (i + 1) ≡ 2 ^ i + 2 ^ i = rw (add-one i, two-pow-succ i) (omega arith) in
       rw e
       (by_test (λ (n : ℕ). Summed x unnamed places byte n (i + 1)) raised

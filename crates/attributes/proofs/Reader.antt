@@ -69,7 +69,7 @@ pub ruleset state_names = (name_none, name_on, name_off, name_other, state_empty
 
 pub first_word : (line : List ℕ) (w : Word) (r : Result DotLine LineFault) → w ≡ word_at line 0
     → r ≡ pick (same_bytes (bytes_of line w) (ascii "dot")) (dot_at ByAttribute line w.end (length line - w.start))
-        (fault UnknownDirective (length line - w.start)) → r ≡ dot_line line
+    (fault UnknownDirective (length line - w.start)) → r ≡ dot_line line
 unfolding dot_line
 first_word line w r e h = rw (← e) h
 

@@ -337,20 +337,13 @@ pub fn compile_attributes(text: &[u8]) -> Attributes
     ensures places { result.places ≡ outcome_places (compiled_attributes text.now) }
 {
     match read_text(text) {
-        Ok(states) => {
-            let places = states.places;
-            Attributes {
-                answer: Ok(states.lines),
-                places,
-            }
-        }
-        Err(rejection) => {
-            let states = DotStates::new();
-            let places = states.places;
-            Attributes {
-                answer: Err(rejection),
-                places,
-            }
-        }
+        Ok(states) => Attributes {
+            answer: Ok(states.lines),
+            places: states.places,
+        },
+        Err(rejection) => Attributes {
+            answer: Err(rejection),
+            places: DotStates::new().places,
+        },
     }
 }

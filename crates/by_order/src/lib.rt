@@ -115,7 +115,8 @@ fn seek(in_order: &InOrder<'_>, c: u32) -> Sought
     }
 }
 
-// The search call: any slices, any number.
+// The search call: any slices, any number. The lookup call begins with the same two tests: a function for both calls
+// would have to promise each of them.
 pub fn search(words: &[u32], order: &[u32], c: u32) -> Result<Sought, Refused>
     ensures { reply_of result ≡ search_reply words.now order.now c }
 {

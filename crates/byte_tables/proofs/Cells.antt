@@ -26,5 +26,5 @@ cells_written places owns cells size long each =
     let own : ℕ → ℕ = (λ k. shown_by places (get_or owns k None) k) in
     let all = cells_from places owns 0 in
     let here : (k : ℕ) → k < 256 → get_or all k 0 ≡ own k =
-        (λ k h. let zero-on : 0 + k ≡ k = omega arith in rw zero-on at (cell_at places owns 0 k (omega arith))) in
+    (λ k h. let zero-on : 0 + k ≡ k = omega arith in rw zero-on at (cell_at places owns 0 k (omega arith))) in
     fill_by_all own cells 256 0 long each ∙ sym (fill_by_all own all 256 0 (omega (arith, cells_length places owns 0)) here)

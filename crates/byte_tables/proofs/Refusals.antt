@@ -70,13 +70,13 @@ module _ (charset : ℕ) (line : List ℕ) where
   unfolding state_at
   of_state_at states at =
       of_ok (operand_word line at) _ (of_operand at)
-          (λ w. of_some (state_in states (bytes_of line w)) _ _ refl (λ state. of_ok (ended line w.end) _ (of_ended w.end) (λ u. tt)))
+      (λ w. of_some (state_in states (bytes_of line w)) _ _ refl (λ state. of_ok (ended line w.end) _ (of_ended w.end) (λ u. tt)))
 
   of_dot_at : (states : States) (at left : ℕ) → Of (dot_at states line at left)
   unfolding dot_at
   of_dot_at states at left =
       of_ok (operand_word line at) _ (of_operand at)
-          (λ w. of_some (dot_number (bytes_of line w)) _ _ refl (λ dot. of_ok (state_at states line w.end) _ (of_state_at states w.end) (λ state. tt)))
+      (λ w. of_some (dot_number (bytes_of line w)) _ _ refl (λ dot. of_ok (state_at states line w.end) _ (of_state_at states w.end) (λ state. tt)))
 
   -- a byte line
   of_byte_at : (at : ℕ) → Of (byte_at charset line at)
@@ -95,7 +95,7 @@ module _ (charset : ℕ) (line : List ℕ) where
   unfolding byte_line
   of_byte_line at left =
       of_ok (byte_at charset line at) _ (of_byte_at at)
-          (λ byte. of_ok (dots_operand_at line byte.after) _ (of_dots_at byte.after) (λ cell. of_ok (ended line cell.after) _ (of_ended cell.after) (λ u. tt)))
+      (λ byte. of_ok (dots_operand_at line byte.after) _ (of_dots_at byte.after) (λ cell. of_ok (ended line cell.after) _ (of_ended cell.after) (λ u. tt)))
 
   -- any line
   of_table_line : Of (table_line charset line)

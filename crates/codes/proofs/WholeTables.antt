@@ -64,7 +64,7 @@ unfolding typed_in
 typed_small [] f cell = omega arith
 typed_small (d ∷ ds) f cell =
     either (λ (m : Option ℕ). character_code m < 2 ^ 32) (types d.meaning cell) (omega (arith, operand_small d.character f.0.character))
-        (typed_small ds f.1 cell)
+    (typed_small ds f.1 cell)
 
 pub entries_fit : (ws : List ℕ) {es : List (Option ℕ)} → es ≡ typing_entries ws → EntriesFit es
 entries_fit ws e = rw e (go (lent_table ws) refl)

@@ -73,7 +73,7 @@ module _ (text empty ws : List ℕ) (s : State) (at : ℕ) (here : Come text emp
         record {
           reached = rw (← counts) at
               (line_read steps text (run_text steps begun text) at (s.lines + 1) (standing ws s) here.reached e (Ok (standing new t)) some ends does
-                  (standing new t) refl);
+              (standing new t) refl);
           written = left.written;
           beyond = left.beyond ∙ here.beyond;
           same = same ∙ here.same;

@@ -170,7 +170,7 @@ unfolding compile_column compiled
 text_column charset text words =
     let Few : ℕ → Type 0 = λ column. column ≤ line_limit + 1 in
     let read : Few (outcome_column (compiled charset text)) =
-        closed (run_text (step charset) begun text) (run_column (step charset) (step_long charset) begun text) in
+    closed (run_text (step charset) begun text) (run_column (step charset) (step_long charset) begun text) in
     either Few (is_charset charset) (either Few (ltb words table_words) (omega arith) read) (omega arith)
   where
     ended : (starts : List ℕ) (ds : List Definition) → outcome_column (closed_by starts ds) ≤ line_limit + 1

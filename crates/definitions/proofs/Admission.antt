@@ -178,7 +178,7 @@ module _ (links : ℕ → ℕ) (j : ℕ) where
   nearer_more (d ∷ ds) {c} {t} l e =
       by_test (λ (f : Option Meaning). target_of f ≡ Some t → nearer links j (d ∷ ds) < nearer links (suc j) (d ∷ ds)) (eqb d.character c)
       (λ p g. rw (eqb-true d.character c p, l, le-ltb j j (omega arith), lt-ltb j (suc j) (omega arith), alias_counts d.meaning g)
-          (omega (arith, nearer_next ds)))
+      (omega (arith, nearer_next ds)))
       (λ p g. omega (arith, nearer_one d, nearer_more ds l g))
       e
 
@@ -239,6 +239,7 @@ pub loop_returns : (ds : List Definition) (d : Definition) → Admits [] ds → 
 loop_returns ds d h plain fresh =
     let v = all_end ds h in
     let free = alias_fresh ds d.character fresh in
-    rw (loop_comes ds v d, alias_new ds d plain fresh)
-    (comes_returns (alias_of (table ds)) v d.character free (target_of (Some d.meaning)),
-        returns_comes (alias_of (table ds)) v d.character free (target_of (Some d.meaning)))
+    rw (loop_comes ds v d, alias_new ds d plain fresh) (
+      comes_returns (alias_of (table ds)) v d.character free (target_of (Some d.meaning)),
+      returns_comes (alias_of (table ds)) v d.character free (target_of (Some d.meaning)),
+    )

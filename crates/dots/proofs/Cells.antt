@@ -66,7 +66,7 @@ module _ (line : List ℕ) (i cell : ℕ) where
 
   pub digits_more : i < length line
       → digits_at (drop i line) i cell ≡ pick (is_blank (get_or line i 0)) (read cell i)
-          (if_some (raise cell (get_or line i 0)) None (λ n. digits_at (drop (i + 1) line) (i + 1) n))
+      (if_some (raise cell (get_or line i 0)) None (λ n. digits_at (drop (i + 1) line) (i + 1) n))
   unfolding digits_at
   digits_more h = rw (drop-cons line i 0, add-one i)
 
@@ -76,7 +76,7 @@ module _ (line : List ℕ) (i cell : ℕ) where
 
   pub inside_more : i < length line
       → inside_at (drop i line) i cell ≡ pick (eqb (get_or line i 0) 41) (ends_at (drop (i + 1) line) (i + 1) cell)
-          (if_some (raise_inside cell (get_or line i 0)) None (λ n. inside_at (drop (i + 1) line) (i + 1) n))
+      (if_some (raise_inside cell (get_or line i 0)) None (λ n. inside_at (drop (i + 1) line) (i + 1) n))
   unfolding inside_at
   inside_more h = rw (drop-cons line i 0, add-one i)
 

@@ -65,8 +65,14 @@ module _ (b i : ℕ) where
   unfolding after_first
   after_four h k =
       let Leads = Lead i 3 (λ y. SecondOfFour b y) in
-      rw (le-ltb b 0x80 (omega arith), le-ltb b 0xC2 (omega arith), le-ltb b 0xE0 (omega arith), ne_eqb b 0xE0 (omega arith),
-          ne_eqb b 0xED (omega arith), le-ltb b 0xF0)
+      rw (
+        le-ltb b 0x80 (omega arith),
+        le-ltb b 0xC2 (omega arith),
+        le-ltb b 0xE0 (omega arith),
+        ne_eqb b 0xE0 (omega arith),
+        ne_eqb b 0xED (omega arith),
+        le-ltb b 0xF0,
+      )
       (if_same Leads b _ (λ l. leads (omega arith))
       (λ l. if_below Leads b _ (λ m. leads (omega arith))
       (λ m. if_same Leads b _ (λ n. leads (omega arith))
@@ -76,8 +82,17 @@ module _ (b i : ℕ) where
   unfolding after_first
   after_over h =
       let l : 0xF0 ≤ b = omega arith in
-      rw (le-ltb b 0x80 (omega arith), le-ltb b 0xC2 (omega arith), le-ltb b 0xE0 (omega arith), ne_eqb b 0xE0 (omega arith),
-          ne_eqb b 0xED (omega arith), le-ltb b 0xF0, ne_eqb b 0xF0 (omega arith), le-ltb b 0xF4 (omega arith), ne_eqb b 0xF4 (omega arith))
+      rw (
+        le-ltb b 0x80 (omega arith),
+        le-ltb b 0xC2 (omega arith),
+        le-ltb b 0xE0 (omega arith),
+        ne_eqb b 0xE0 (omega arith),
+        ne_eqb b 0xED (omega arith),
+        le-ltb b 0xF0,
+        ne_eqb b 0xF0 (omega arith),
+        le-ltb b 0xF4 (omega arith),
+        ne_eqb b 0xF4 (omega arith),
+      )
 
 pub first_byte : (b i : ℕ) (bs : List ℕ) {p : Utf8State} → after_first b i ≡ p → utf8_from (b ∷ bs) i Between ≡ utf8_from bs (i + 1) p
 unfolding utf8_from

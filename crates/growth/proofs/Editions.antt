@@ -11,7 +11,7 @@ pub present_never_spoils : (charset : ℕ) (text more slice slice' : List ℕ) �
     → (count : ℕ) → edition_reply 2 charset text (length slice) ≡ answered count → (count' : ℕ)
     → edition_reply 2 charset (text ++ more) (length slice') ≡ answered count'
     → ((c : ℕ) → is_scalar c ≡ true
-        → Lookups charset text more (edition_words 2 charset text slice) (edition_words 2 charset (text ++ more) slice') c)
+    → Lookups charset text more (edition_words 2 charset text slice) (edition_words 2 charset (text ++ more) slice') c)
     × Typings (edition_words 2 charset text slice) (edition_words 2 charset (text ++ more) slice')
 unfolding edition_reply edition_words
 present_never_spoils charset text more slice slice' ended count accepts count' accepts' =

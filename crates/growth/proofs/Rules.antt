@@ -121,7 +121,7 @@ module _ (T G : Table) (keep : (c : ℕ) → Keeps (T.found c) (G.found c)) (who
   unfolding candidates
   candidates_kept c =
       more (cell_kept c)
-          (more (end_kept c) (more (other_kept (base_of c)) (more (other_kept (stand_in_of c)) (more (cell_kept 0xFFFD) (more (cell_kept 0x3F) none)))))
+      (more (end_kept c) (more (other_kept (base_of c)) (more (other_kept (stand_in_of c)) (more (cell_kept 0xFFFD) (more (cell_kept 0x3F) none)))))
 
   -- the rule falls or stays, and the same rule gives the same cell
   pub not_spoiled : (charset c : ℕ) → NotSpoiled (lookup charset T c) (lookup charset G c)

@@ -86,7 +86,8 @@ pub fn line_end(text: &[u8], at: usize) -> usize
     at + rest.iter().position(|b| *b == b'\n').unwrap_or(rest.len())
 }
 
-// How many bytes of a line stand before its one CR.
+// How many bytes of a line stand before its one CR. A length: a slice would have to promise that it is the front of
+// the line.
 #[tactic(auto, using(crate::proofs::Lines::trimmed_cases))]
 pub fn trimmed(line: &[u8]) -> usize
     ensures { Trimmed line.now result }
@@ -131,7 +132,8 @@ pub fn next_word(line: &[u8], at: usize) -> Word
     Word { start, end }
 }
 
-// Whether two slices hold the same bytes.
+// Whether two slices hold the same bytes. Readers ask it of each word of the language, as the definitions do: a `match`
+// on byte strings would have to be shown equal to each of these anew.
 #[tactic(auto, using(crate::proofs::Words::same_lem))]
 pub fn same_bytes(a: &[u8], b: &[u8]) -> bool
     ensures { result ≡ same_bytes a.now b.now }

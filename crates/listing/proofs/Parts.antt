@@ -12,4 +12,4 @@ pub line_put : (d : Definition) {old word first second third new : List ℕ} {at
 line_put d w p q s t =
     let front = directive_word d.meaning ++ (32 ∷ escaped d.character) in
     put_put (line_of d) (10 ∷ [])
-        (put_put front (32 ∷ operand_text d.meaning) (put_put (directive_word d.meaning) (32 ∷ escaped d.character) (rw w at p) q) s) t
+    (put_put front (32 ∷ operand_text d.meaning) (put_put (directive_word d.meaning) (32 ∷ escaped d.character) (rw w at p) q) s) t

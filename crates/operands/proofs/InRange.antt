@@ -83,7 +83,7 @@ unfolding character_at
 value_in_range charset kind line at =
     ok_lem _ (operand_word line at) _
     (λ w. some_lem OperandInRange (λ c. is_operand c ≡ true) (word_value kind charset (bytes_of line w)) tt (λ c h. h)
-        (word_in_range charset kind (bytes_of line w)))
+    (word_in_range charset kind (bytes_of line w)))
 
 -- ---- dots: each answer is a cell
 

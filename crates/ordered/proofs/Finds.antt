@@ -72,7 +72,7 @@ module _ (ws : List ℕ) (n : ℕ) (os : List ℕ) (o : Ordered ws n os) (c : �
       found_pair l p =
           let hit = pair_hit ws n os o c h is place e in
           sym (find_first limit ws (omega (arith, o.fits)) c (get_or os place 0) l hit.1
-              (λ j b. pair_alone ws n os o c h is place e j (omega arith) (λ w. omega arith)) ∙ rw p)
+          (λ j b. pair_alone ws n os o c h is place e j (omega arith) (λ w. omega arith)) ∙ rw p)
 
       pub found_later : limit ≤ get_or os place 0 → None ≡ find (definitions limit ws) c
       found_later l = sym (find_nowhere limit ws (omega (arith, o.fits)) c (λ j b. pair_alone ws n os o c h is place e j (omega arith) (λ w. omega arith)))
@@ -110,8 +110,8 @@ one_marked ws k marks s before is h = record {
       (λ t.
       let other = eqb-false at s t in
       let earlier =
-          by_cases (eqb j k) (λ u. absurd (other (ap (λ (i : ℕ). slot_of (get_or ws (2 * i) 0)) (eqb-true j k u) ∙ sym is)))
-              (λ u. omega (arith, eqb-false j k u)) in
+      by_cases (eqb j k) (λ u. absurd (other (ap (λ (i : ℕ). slot_of (get_or ws (2 * i) 0)) (eqb-true j k u) ∙ sym is)))
+      (λ u. omega (arith, eqb-false j k u)) in
       get_or-set_other marks s at 1 0 other ∙ before.marked j earlier);
 }
 

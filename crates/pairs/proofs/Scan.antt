@@ -38,7 +38,7 @@ pub definitions_more : (n : ℕ) (ws : List ℕ) → 2 * n + 1 < length ws
 definitions_more n ws h =
     rw (← two_more ws (2 * n) h, take-append-drop) at
     (definitions_two n (take (2 * n) ws) (drop (2 * n) ws) (drop (2 * n + 2) ws) (get_or ws (2 * n) 0) (get_or ws (2 * n + 1) 0)
-        (length-take-le (2 * n) ws (omega arith)))
+    (length-take-le (2 * n) ws (omega arith)))
 
 -- the definitions of the pairs i to n
 abbrev pub rest : ℕ → ℕ → List ℕ → List Definition

@@ -111,7 +111,7 @@ module _ (charset room : ℕ) where
       then Standing (ReadingInRange room) (character_at charset kind line at) _ (value_in_range charset kind line at)
       (λ c h. then Small (ReadingInRange room) (dots_operand_at line c.after) _ (dots_in_range line c.after)
       (λ dots l. each_finished (ReadingInRange room) line dots.after (define c.value (dots_meaning typed dots.value) left)
-          (record { character = h; number = meaning_in_range typed dots.value l })))
+      (record { character = h; number = meaning_in_range typed dots.value l })))
 
   alias_line_lem : (line : List ℕ) (at left : ℕ) → Each (ReadingInRange room) (alias_line charset line at left)
   unfolding alias_line
@@ -162,7 +162,7 @@ module _ (charset room : ℕ) where
 
       go : (directive : Option Directive) (at left : ℕ)
           → Each (FrontInRange room)
-              (if_some directive (Err (record { refusal = UnknownDirective; left = left })) (λ d. after_directive charset ds room line d at left))
+          (if_some directive (Err (record { refusal = UnknownDirective; left = left })) (λ d. after_directive charset ds room line d at left))
       go None at left = record { value = tt }
       go (Some directive) at left = known directive at left
 
@@ -195,7 +195,7 @@ from_in_range : (charset : ℕ) (ds : List Definition) (room : ℕ) (line : List
 unfolding read_from
 from_in_range charset ds zero line =
     then (FrontInRange zero) (ReadingInRange zero) (front_of charset ds zero line) _ (front_in_range charset zero ds line).value
-        (on_front_lem zero (λ holds rest. Ok NoEffect) (λ holds rest. record { value = tt }))
+    (on_front_lem zero (λ holds rest. Ok NoEffect) (λ holds rest. record { value = tt }))
 from_in_range charset ds (suc room) line =
     then (FrontInRange (suc room)) (ReadingInRange (suc room)) (front_of charset ds (suc room) line) _ (front_in_range charset (suc room) ds line).value
     (on_front_lem (suc room) _ (λ holds rest.
@@ -222,7 +222,7 @@ module _ (charset : ℕ) (ds : List Definition) (around : Around) (line : List �
   read_in_range =
       each_line (ReadingInRange around.room) line charset ds around tt tt tt
       (then (ReadingInRange around.room) (ReadingInRange around.room) (read_from charset ds around.room line) _
-          (from_in_range charset ds around.room line).value (λ reading h. record { value = holds_in_range around.room around.taken reading h }))
+      (from_in_range charset ds around.room line).value (λ reading h. record { value = holds_in_range around.room around.taken reading h }))
 
   -- the definition that a line gives is in range
   pub line_in_range : {d : Definition} {left : ℕ} → read_line charset ds around line ≡ Ok (Define d left) → InRange d
@@ -240,7 +240,7 @@ module _ (charset : ℕ) (ds : List Definition) (around : Around) (line : List �
       rw e at
       (each_line NoHalf line charset ds around tt tt tt
       (then (λ r. Unit) NoHalf (read_from charset ds around.room line) _ (any (read_from charset ds around.room line))
-          (λ reading h. record { value = rw untaken (without_half reading) }))).value
+      (λ reading h. record { value = rw untaken (without_half reading) }))).value
     where
       any : (r : Result Reading LineFault) → IfOk r (λ q. Unit)
       any (Ok q) = tt

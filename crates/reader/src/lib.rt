@@ -40,7 +40,7 @@ pub enum Reading {
 }
 
 // A directive at the front of what is left of a line: read whole, or a condition, whether it holds and where the
-// further directive begins.
+// further directive begins. Neither is a fault, so this is no `Result`.
 #[derive(Clone, Copy)]
 pub enum Front {
     Whole(Reading),
@@ -342,7 +342,8 @@ fn if_holds(holds: bool, reading: Reading) -> Reading
     }
 }
 
-// `else` or `endIf` from behind its word on, which begins `left` bytes before the line's end.
+// `else` or `endIf` from behind its word on, which begins `left` bytes before the line's end. `may` is what the blocks
+// around answer for this word.
 #[tactic(auto, unfolding(crate::specs::Reader::block_line))]
 fn block_line(
     line: &[u8],

@@ -91,20 +91,23 @@ module _ (charset : ℕ) (ds : List Definition) where
     line_back m d l p e =
         let plain = line_plain (directive_word m) (operand_text m) c p d in
         let size = line_length_lem (directive_word m) (operand_text m) c in
-        record { plain = plain; short = omega (arith, size);
-            reads = word_read m plain (omega (arith, size)) e ∙ ap (λ (left : ℕ). Ok (define c m left)) (omega arith) }
+        record {
+          plain = plain;
+          short = omega (arith, size);
+          reads = word_read m plain (omega (arith, size)) e ∙ ap (λ (left : ℕ). Ok (define c m left)) (omega arith);
+        }
 
     meaning_back : is_operand c ≡ true → (m : Meaning) → is_number_in_range m ≡ true → LineBack (record { character = c; meaning = m })
     meaning_back h (Typed n) e =
         let l : n < 256 = omega (arith, leb-true n 255 e) in
         let all = (all_listed c).0 in
         line_back (Typed n) (dots_plain c (ascii "char") all n l) (omega (arith, dots_few n l)) refl
-            (λ left. dots_read (ascii "char") charset c h true n left (dots_behind_lem c (ascii "char") all n l))
+        (λ left. dots_read (ascii "char") charset c h true n left (dots_behind_lem c (ascii "char") all n l))
     meaning_back h (Shown n) e =
         let l : n < 256 = omega (arith, leb-true n 255 e) in
         let all = (all_listed c).1 in
         line_back (Shown n) (dots_plain c (ascii "glyph") all n l) (omega (arith, dots_few n l)) refl
-            (λ left. dots_read (ascii "glyph") charset c h false n left (dots_behind_lem c (ascii "glyph") all n l))
+        (λ left. dots_read (ascii "glyph") charset c h false n left (dots_behind_lem c (ascii "glyph") all n l))
     meaning_back h (Alias t) e =
         line_back (Alias t) (digits_plain t) (omega (arith, digits_length 8 t)) refl (λ left. alias_read (ascii "alias") charset c h t left e)
 

@@ -65,7 +65,7 @@ module _ (ws slice : List ℕ) (enough : table_words ≤ length slice) where
       let set = charset_of ws in
       let e = listing_compiled set ds l.admits l.in_range in
       let size : length (image_of set ds) ≡ table_words =
-          omega (arith, length-append (pairs_of ds) (set ∷ 0 ∷ []), pairs_length ds (admits_limit ds l.admits)) in
+      omega (arith, length-append (pairs_of ds) (set ∷ 0 ∷ []), pairs_length ds (admits_limit ds l.admits)) in
       let listed : take table_words ws ≡ image_of set ds = ap (take table_words) l.image ∙ take_at (image_of set ds) (drop table_words ws) table_words size in
       record {
         short = listing_short set ds l.in_range;

@@ -91,7 +91,7 @@ module _ (ws : List ℕ) (k : ℕ) (inv : check_from (definitions k ws) (drop (2
   pub check_next : {v : Result ℕ ℕ} → k < definition_limit
       → v ≡ pick (is_zero_pair (character ws k) (word ws k)) (zero_from k (k + 1) (behind ws k))
       (pick (is_sound_pair (character ws k) (word ws k))
-          (if_fresh (definitions k ws) (definition_of (character ws k) (word ws k)) k (check_from (definitions (k + 1) ws) (behind ws k)))
+      (if_fresh (definitions k ws) (definition_of (character ws k) (word ws k)) k (check_from (definitions (k + 1) ws) (behind ws k)))
       (Err k))
       → v ≡ check_from [] ws
   check_next h e =

@@ -108,8 +108,12 @@ words_length (d ∷ ds) = omega (arith, words_length ds)
 
 pub pairs_length : (ds : List Definition) → length ds ≤ definition_limit → length (pairs_of ds) ≡ pair_words
 pairs_length ds h =
-    omega (arith, length-append (words_of ds) (replicate (pair_words - 2 * length ds) 0), words_length ds,
-        length-replicate {A = ℕ} (pair_words - 2 * length ds) 0)
+    omega (
+      arith,
+      length-append (words_of ds) (replicate (pair_words - 2 * length ds) 0),
+      words_length ds,
+      length-replicate {A = ℕ} (pair_words - 2 * length ds) 0,
+    )
 
 -- what stands behind the pairs says the set, and what lies beyond the table
 module _ (ws u : List ℕ) (charset : ℕ) (behind : drop pair_words ws ≡ charset ∷ 0 ∷ u) where
@@ -180,7 +184,7 @@ module _ (ds : List Definition) (h : Admits [] ds) (f : AllInRange ds) (charset 
     unfolding lent_table
     image_lent =
         let long : table_words ≤ length image =
-            omega (arith, ap length parts, length-append (pairs_of ds) (charset ∷ 0 ∷ u), pairs_length ds (admits_limit ds h)) in
+        omega (arith, ap length parts, length-append (pairs_of ds) (charset ∷ 0 ∷ u), pairs_length ds (admits_limit ds h)) in
         rw (le-ltb (length image) table_words long, image_sound, image_back)
 
 -- ---- words that pass the check
@@ -273,7 +277,7 @@ lent_read ws n long r sound =
     let end = both (is_charset (charset_of ws)) (eqb (get_or ws (pair_words + 1) 0) 0) sound in
     let pairs : take pair_words ws ≡ pairs_of r.rest = rw (length-take-le pair_words ws (omega arith)) at r.words in
     let behind : drop pair_words ws ≡ charset_of ws ∷ 0 ∷ drop table_words ws =
-        rw (eqb-true (get_or ws (pair_words + 1) 0) 0 end.1) at (two_more ws pair_words (omega arith)) in
+    rw (eqb-true (get_or ws (pair_words + 1) 0) 0 end.1) at (two_more ws pair_words (omega arith)) in
     let image : ws ≡ image_of (charset_of ws) r.rest ++ drop table_words ws =
     sym (take-append-drop pair_words ws) ∙ rw (pairs, behind) (sym (append_assoc (pairs_of r.rest) (charset_of ws ∷ 0 ∷ []) (drop table_words ws))) in
     let count : n ≡ length r.rest = omega (arith, r.count) in

@@ -63,18 +63,22 @@ module _ (words page : List ℕ) (ds : List Definition) (sound : lent_table word
   -- a page call on a part of the page, with outputs that are as long
   accepted : (w : Window) (cells rules : List ℕ) → w.start + w.width ≤ length page → w.width ≤ length cells → w.width ≤ length rules
       → page_call words (part_of page w) (take w.width cells) (take w.width rules) ≡ called (answered tt) (map cell_of (part_of page w))
-          (map rule_of (part_of page w))
+      (map rule_of (part_of page w))
   accepted w cells rules within h g =
       let part = part_of page w in
       let long : length part ≡ w.width = part_length page w within in
       let long-cells : length (take w.width cells) ≡ w.width = length-take-le w.width cells h in
       let long-rules : length (take w.width rules) ≡ w.width = length-take-le w.width rules g in
       let filled-cells : over (map cell_of part) (take w.width cells) ≡ map cell_of part =
-          over_whole (map cell_of part) (take w.width cells) (omega (arith, long, long-cells, length-map part cell_of)) in
+      over_whole (map cell_of part) (take w.width cells) (omega (arith, long, long-cells, length-map part cell_of)) in
       let filled-rules : over (map rule_of part) (take w.width rules) ≡ map rule_of part =
-          over_whole (map rule_of part) (take w.width rules) (omega (arith, long, long-rules, length-map part rule_of)) in
-      rw (planned part (length (take w.width cells)) (length (take w.width rules)) (omega (arith, long, long-cells)) (omega (arith, long, long-rules))
-          (part_scalars w.start w.width page 0 scalars), filled-cells, filled-rules)
+      over_whole (map rule_of part) (take w.width rules) (omega (arith, long, long-rules, length-map part rule_of)) in
+      rw (
+        planned part (length (take w.width cells)) (length (take w.width rules)) (omega (arith, long, long-cells)) (omega (arith, long, long-rules))
+            (part_scalars w.start w.width page 0 scalars),
+        filled-cells,
+        filled-rules,
+      )
 
   -- the bytes of one part, then those of the others
   next_over : (f : ℕ → ℕ) (k : ℕ) (part others old : List ℕ) → length part ≡ k
@@ -86,7 +90,7 @@ module _ (words page : List ℕ) (ds : List Definition) (sound : lent_table word
   one_by_one : (ws : List Window) (i : ℕ) (cells rules : List ℕ) → all_within (length page) ws i ≡ answered tt → widths ws ≤ length cells
       → widths ws ≤ length rules
       → one_per_window ws words page cells rules ≡ called (answered tt) (over (map cell_of (parts_of page ws)) cells)
-          (over (map rule_of (parts_of page ws)) rules)
+      (over (map rule_of (parts_of page ws)) rules)
   unfolding one_per_window widths parts_of
   one_by_one [] i cells rules o h g = refl
   one_by_one (w ∷ ws) i cells rules o h g =
@@ -94,9 +98,9 @@ module _ (words page : List ℕ) (ds : List Definition) (sound : lent_table word
       let long : length (part_of page w) ≡ w.width = part_length page w within.0 in
       let first = called (answered tt) (map cell_of (part_of page w)) (map rule_of (part_of page w)) in
       ap (λ (x : Call). followed_by x (one_per_window ws words page (drop w.width cells) (drop w.width rules)))
-          (accepted w cells rules within.0 (omega arith) (omega arith))
+      (accepted w cells rules within.0 (omega arith) (omega arith))
       ∙ ap (λ (x : Call). followed_by first x)
-          (one_by_one ws (i + 1) (drop w.width cells) (drop w.width rules) within.1 (simp length-drop (omega arith)) (simp length-drop (omega arith)))
+      (one_by_one ws (i + 1) (drop w.width cells) (drop w.width rules) within.1 (simp length-drop (omega arith)) (simp length-drop (omega arith)))
       ∙ rw (next_over cell_of w.width (part_of page w) (parts_of page ws) cells long, next_over rule_of w.width (part_of page w) (parts_of page ws) rules long)
 
 -- ---- the plan of an accepted call

@@ -45,7 +45,7 @@ module _ (x ds : List ℕ) (count digit cell : ℕ) (inv : take count ds ++ rais
       by_cases (eqb (cell % 2) 1)
       (λ e. rw (eqb-true (cell % 2) 1 e, add-one count, take-suc-set ds count digit (omega arith)) (append_snoc (take count ds) digit _ ∙ rw e at all))
       (λ e. let none : cell % 2 ≡ 0 = omega (arith, eqb-false (cell % 2) 1 e) in
-          rw (none, add-zero count, take-set-le count ds count digit (omega arith)) (rw e at all))
+      rw (none, add-zero count, take-set-le count ds count digit (omega arith)) (rw e at all))
 
   pub raised_all : 57 ≤ digit → take count ds ≡ x
   unfolding raised_from

@@ -45,6 +45,7 @@ pub copied : (old text part : List ℕ) (at : ℕ) → at + length text ≤ leng
 copied old text part at h e =
     let room : at + length text - at ≡ length text = omega arith in
     record {
-        bytes = rw (e, room, sets-eq text old at h, drop-drop (length text) at old)
-            (sym (append_assoc (take at old) text (drop (at + length text) old)));
-        after = refl }
+      bytes = rw (e, room, sets-eq text old at h, drop-drop (length text) at old)
+          (sym (append_assoc (take at old) text (drop (at + length text) old)));
+      after = refl;
+    }

@@ -30,12 +30,12 @@ pub returns-then-not-is_rising-clause-tests : goal.returns-then-not-is_rising-cl
 returns-then-not-is_rising-clause-tests c =
     rw c.into-then-not-is_rising.ensures
     (tests_order _ _ c.if-order-lt-DEFINITION_LIMIT.false c.if-words-lt-TABLE_WORDS.false _ c.count_pairs-count.ensures.is c.if-not-is_rising.ensures
-        _ c.in_ok-lent_table.ensures.definitions)
+    _ c.in_ok-lent_table.ensures.definitions)
 
 pub returns-in-Ok-clause-tests : goal.returns-in-Ok-clause-tests
 returns-in-Ok-clause-tests c =
     tests_passed _ _ c.if-order-lt-DEFINITION_LIMIT.false c.if-words-lt-TABLE_WORDS.false _ c.count_pairs-count.ensures.is _
-        (sym c.in-Ok.ensures) c.if-not-is_rising.ensures
+    (sym c.in-Ok.ensures) c.if-not-is_rising.ensures
 
 pub returns-in-Err-clause-tests : goal.returns-in-Err-clause-tests
 returns-in-Err-clause-tests c =

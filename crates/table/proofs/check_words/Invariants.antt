@@ -15,7 +15,7 @@ abbrev pub invariant-loop-j : goal.invariant-loop-j
 invariant-loop-j l =
     (2 * l.k ≤ length l.words) × (find (definitions l.k l.words) l.character ≡ find (rest l.k l.j l.words) l.character)
     × (if_fresh (definitions l.k l.words) (definition_of l.character l.w) l.k
-        (check_from (definitions (l.k + 1) l.words) (drop (2 * (l.k + 1)) l.words)) ≡ check_from [] l.words)
+    (check_from (definitions (l.k + 1) l.words) (drop (2 * (l.k + 1)) l.words)) ≡ check_from [] l.words)
 
 -- The pairs before k are definitions; the check of the others behind them is the check of all.
 abbrev pub invariant-pairs : goal.invariant-pairs
