@@ -1,5 +1,6 @@
 -- Whether a dot is raised, and the sum of the weights, dot by dot.
-use Rattle.std.proofs.Common.{◌≡◌, refl, sym, ◌∙◌, ℕ, ◌+◌, ◌*◌, ◌/◌, ◌%◌, ◌^◌, ◌≤◌, ◌<◌, Bool, true, false, not, List, length, drop, get_or, eqb, arith, add-one}
+use Rattle.std.proofs.Common.{◌≡◌, refl, sym, ◌∙◌, ℕ, ◌+◌, ◌*◌, ◌/◌, ◌%◌, ◌^◌, ◌≤◌, ◌<◌, Bool, true, false, not, List, length, drop, get_or, eqb}
+use Rattle.std.proofs.Common.{arith, add-one}
 use native.Mathlib.Nat.{add-zero, two-pow-succ, pow-le-pow_right, mod-eq_of_lt}
 use lib.ListN.{drop_of_length-le}
 use lib.Seq.{drop-cons}
@@ -65,7 +66,8 @@ module _ (x : ℕ) (unnamed : Bool) (places : List State) (byte cell i : ℕ) (s
   sum_on new h e =
       let raised : Bool = is_raised unnamed (get_or places i Unnamed) byte in
       let k : i < length places = omega arith in
-      let more : x ≡ cell + (pick raised (2 ^ i) 0 + cell_from unnamed (drop (i + 1) places) byte (i + 1)) = here.left ∙ rw (drop-cons places i Unnamed, add-one i) in
+      let more : x ≡ cell + (pick raised (2 ^ i) 0 + cell_from unnamed (drop (i + 1) places) byte (i + 1)) =
+      here.left ∙ rw (drop-cons places i Unnamed, add-one i) in
       let double : 2 ^ (i + 1) ≡ 2 ^ i + 2 ^ i = rw (add-one i, two-pow-succ i) (omega arith) in
       rw e
       (by_test (λ (n : ℕ). Summed x unnamed places byte n (i + 1)) raised

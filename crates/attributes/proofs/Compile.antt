@@ -3,18 +3,18 @@ use Rattle.std.proofs.Common.{◌≡◌, sym, ℕ, ◌+◌, ◌-◌, ◌≤◌, 
 use borrow.Author.Tests.{lt-ltb}
 use Rattle.basics.specs.declared.Refusal.TheVariants.{TextTooLong, LineTooLong}
 use Rattle.lines.specs.Lines.{without_cr}
-use Rattle.lines.specs.Texts.{text_limit, line_limit, opening_of, Step, next, stop, Outcome, rejected, outcome_column, rejection_of}
+use Rattle.lines.specs.Texts.{text_limit, line_limit, opening_of, Step, next, stop, rejected, outcome_column}
 use Rattle.lines.specs.Internal.{step_of}
 use Rattle.lines.specs.declared.LineFault.{LineFault}
-use Rattle.lines.specs.declared.Rejection.{Rejection}
-use Rattle.lines.proofs.Texts.{Reached, outcome_of, text_first, text_long, run_column}
+use Rattle.lines.proofs.Texts.{Reached, text_first, text_long, run_column}
 use Rattle.attributes.specs.Cells.{all_unnamed}
 use Rattle.attributes.specs.Compile.{dot_states, read_dot_line, with_dot, with_dot_line, dot_step, compiled_attributes}
 use Rattle.attributes.specs.declared.DotStates.{DotStates}
 use Rattle.attributes.specs.declared.DotLine.{DotLine}
 
 -- read is what was answered of a line, x what the states after it
-module _ (f : DotStates) (line : List ℕ) (n : ℕ) (read : Result (Option DotLine) LineFault) (c : take n line ≡ without_cr line) (e : read ≡ read_dot_line (take n line)) where
+module _ (f : DotStates) (line : List ℕ) (n : ℕ) (read : Result (Option DotLine) LineFault) (c : take n line ≡ without_cr line)
+    (e : read ≡ read_dot_line (take n line)) where
   step_read : {x : Step DotStates} → x ≡ with_dot_line f read → x ≡ dot_step f (without_cr line)
   unfolding dot_step
   step_read h = rw (← c, ← e) h
@@ -25,7 +25,8 @@ module _ (f : DotStates) (line : List ℕ) (n : ℕ) (read : Result (Option DotL
   pub line_fault : (x : Result DotStates LineFault) (fault : LineFault) → read ≡ Err fault → x ≡ Err fault → step_of x ≡ dot_step f (without_cr line)
   line_fault x fault q p = step_read (rw (q, p))
 
-  pub line_dot : (x : Result DotStates LineFault) (o : Option DotLine) (d : DotLine) → read ≡ Ok o → o ≡ Some d → step_of x ≡ with_dot f d → step_of x ≡ dot_step f (without_cr line)
+  pub line_dot : (x : Result DotStates LineFault) (o : Option DotLine) (d : DotLine) → read ≡ Ok o → o ≡ Some d → step_of x ≡ with_dot f d
+      → step_of x ≡ dot_step f (without_cr line)
   line_dot x o d q z p = step_read (rw (q, z) p)
 
 pub ruleset on_line = (line_fault, line_skip, line_dot)
@@ -34,17 +35,13 @@ pub long_text : (text : List ℕ) → text_limit < length text → rejected Text
 unfolding compiled_attributes
 long_text text h = sym (text_long dot_step (dot_states all_unnamed 0) text h)
 
-pub come_first : (text : List ℕ) (f : DotStates) → length text ≤ text_limit → f ≡ dot_states all_unnamed 0 → Reached dot_step text (compiled_attributes text) 0 1 f
+pub come_first : (text : List ℕ) (f : DotStates) → length text ≤ text_limit → f ≡ dot_states all_unnamed 0
+    → Reached dot_step text (compiled_attributes text) 0 1 f
 unfolding compiled_attributes
 come_first text f short e = rw e (text_first dot_step (dot_states all_unnamed 0) text short)
 
 pub no_lines : (f : DotStates) → f ≡ dot_states all_unnamed 0 → f.lines ≤ 0
 no_lines f e = rw e (omega arith)
-
--- what the code answered of a fault
-pub refused_as : (whole : Outcome DotStates) (here : List ℕ) (n : ℕ) (fault : LineFault) (e : Rejection) → e ≡ rejection_of fault here n → whole ≡ outcome_of (rejection_of fault here n)
-    → rejected e.refusal e.line e.column ≡ whole
-refused_as whole here n fault e q h = rw (q, h)
 
 step_long : (f : DotStates) (line : List ℕ) → line_limit < length line → dot_step f line ≡ stop LineTooLong (length line - line_limit)
 unfolding dot_step read_dot_line opening_of

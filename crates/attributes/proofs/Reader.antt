@@ -1,5 +1,6 @@
 -- Each way through the reading of a line: what the calls answered, put into the definitions.
-use Rattle.std.proofs.Common.{◌≡◌, refl, ℕ, ◌+◌, ◌-◌, ◌≤◌, ◌<◌, add-one, Bool, true, false, List, [], ◌∷◌, length, get_or, drop, Option, None, Some, Result, arith}
+use Rattle.std.proofs.Common.{◌≡◌, refl, ℕ, ◌+◌, ◌-◌, ◌≤◌, ◌<◌, add-one, Bool, true, false, List, [], ◌∷◌, length, get_or, drop, Option, None, Some}
+use Rattle.std.proofs.Common.{Result, arith}
 use Rattle.std.specs.Borrow.{Bor}
 use lib.ListN.{drop_of_length-le}
 use lib.Seq.{drop-cons}
@@ -67,7 +68,8 @@ state_empty (b ∷ bs) h = absurd (omega arith)
 pub ruleset state_names = (name_none, name_on, name_off, name_other, state_empty)
 
 pub first_word : (line : List ℕ) (w : Word) (r : Result DotLine LineFault) → w ≡ word_at line 0
-    → r ≡ pick (same_bytes (bytes_of line w) (ascii "dot")) (dot_at ByAttribute line w.end (length line - w.start)) (fault UnknownDirective (length line - w.start)) → r ≡ dot_line line
+    → r ≡ pick (same_bytes (bytes_of line w) (ascii "dot")) (dot_at ByAttribute line w.end (length line - w.start))
+    (fault UnknownDirective (length line - w.start)) → r ≡ dot_line line
 unfolding dot_line
 first_word line w r e h = rw (← e) h
 

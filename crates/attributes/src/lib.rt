@@ -30,6 +30,7 @@ pub enum Attribute {
 }
 
 // What a table says of a dot: nothing, raised by an attribute that is on or by one that is off, always or never raised.
+// `Unnamed` is a case: an `Option` of the other four would be asked before each of them.
 #[derive(Clone, Copy)]
 pub enum State {
     Unnamed,
@@ -103,7 +104,8 @@ impl State {
     }
 }
 
-// The cell of a byte by the states of the dots; `unnamed` says whether a dot without a line is raised.
+// The cell of a byte by the states of the dots; `unnamed` says whether a dot without a line is raised. It is the answer
+// for such a dot, no switch.
 pub fn cell_by(unnamed: bool, places: [State; 8], byte: u8) -> u8
     ensures { result ≡ cell_by unnamed places byte }
 {
@@ -313,7 +315,8 @@ fn read_text(text: &[u8]) -> Result<DotStates, Rejection>
     let mut states = DotStates::new();
     let mut line = 1;
     let mut at = 0;
-    // A cursor: where a line ends says where the next one begins.
+    // A cursor: where a line ends says where the next one begins. Each kind of table has such a loop over its own
+    // state; one for all would need a trait for what a line does to it.
     while at < text.len() {
         let end = lines::line_end(text, at);
         let here = &text[at..end];
@@ -334,20 +337,13 @@ pub fn compile_attributes(text: &[u8]) -> Attributes
     ensures places { result.places ≡ outcome_places (compiled_attributes text.now) }
 {
     match read_text(text) {
-        Ok(states) => {
-            let places = states.places;
-            Attributes {
-                answer: Ok(states.lines),
-                places,
-            }
-        }
-        Err(rejection) => {
-            let states = DotStates::new();
-            let places = states.places;
-            Attributes {
-                answer: Err(rejection),
-                places,
-            }
-        }
+        Ok(states) => Attributes {
+            answer: Ok(states.lines),
+            places: states.places,
+        },
+        Err(rejection) => Attributes {
+            answer: Err(rejection),
+            places: DotStates::new().places,
+        },
     }
 }

@@ -1,5 +1,6 @@
 -- The open blocks in their array, as a stack.
-use Rattle.std.proofs.Common.{◌≡◌, refl, sym, ap, ℕ, zero, suc, ◌+◌, ◌-◌, ◌≤◌, ◌<◌, Bool, true, false, not, List, [], ◌∷◌, map, length, get_or, take, set, None, Some, arith, add-one, leb}
+use Rattle.std.proofs.Common.{◌≡◌, refl, sym, ap, ℕ, zero, suc, ◌+◌, ◌-◌, ◌≤◌, ◌<◌, Bool, true, false, not, List, [], ◌∷◌, map, length, get_or}
+use Rattle.std.proofs.Common.{take, set, None, Some, arith, add-one, leb}
 use lib.ListN.{length-map, length-drop}
 use Rattle.std.proofs.lemmas.List.{get_or-take}
 use lib.Seq.{length-take-le, get_or-set_same, get_or-set_other}
@@ -91,7 +92,8 @@ abbrev turned : Level → Level
 turned l = level (open_block l.block.first l.block.second true) l.start
 
 module _ (s r : Blocks) (number : ℕ) (size : length s.levels ≡ depth_limit) where
-  pub changed_open : (first second : Bool) → s.depth < depth_limit → r.levels ≡ set s.levels s.depth (level (open_block first second false) number) → r.depth ≡ s.depth + 1
+  pub changed_open : (first second : Bool) → s.depth < depth_limit → r.levels ≡ set s.levels s.depth (level (open_block first second false) number)
+      → r.depth ≡ s.depth + 1
       → Changed s (Open first second) number r
   changed_open first second h p q =
       let new = level (open_block first second false) number in
@@ -135,7 +137,8 @@ module _ (s r : Blocks) (number : ℕ) (size : length s.levels ≡ depth_limit) 
       (λ e. closed_changed (s.depth - 1) (omega (arith, leb-false s.depth 0 e)) p q)
 
 -- each open block has the line that opened it
-pub after_alike : (line : BlockLine) (number : ℕ) (bs : List OpenBlock) (starts : List ℕ) → length bs ≡ length starts → length (blocks_after line bs) ≡ length (starts_after line number starts)
+pub after_alike : (line : BlockLine) (number : ℕ) (bs : List OpenBlock) (starts : List ℕ) → length bs ≡ length starts
+    → length (blocks_after line bs) ≡ length (starts_after line number starts)
 after_alike (Open first second) number bs starts e = ap suc e
 after_alike Else number [] starts e = e
 after_alike Else number (b ∷ bs) starts e = e

@@ -23,8 +23,8 @@ is_taken b = pick b.past b.second b.first
 abbrev pub around : ℕ → Bool → Bool → Bool → Around
 around room taken turns closes = record { room = room; taken = taken; turns = turns; closes = closes }
 
--- by the open blocks, the innermost first. Whether a line is taken goes by the innermost alone, since a block that opens
--- in lines not taken has no half that is
+-- by the open blocks, the innermost first. Whether a line is taken goes by the innermost alone, since a block that
+-- opens in lines not taken has no half that is
 unfoldable pub around_of : List OpenBlock → Around
 around_of [] = around depth_limit true false false
 around_of (b ∷ bs) = around (depth_limit - length (b ∷ bs)) (is_taken b) (not b.past) true

@@ -7,7 +7,8 @@ ghost use Rattle.blocks.specs.Blocks.{depth_limit, is_taken, inert};
 // How many open blocks and conditions of a line there may be together.
 const DEPTH_LIMIT: usize = 8;
 
-// An open block: whether its first half is taken, whether its second is, and whether its `else` is past.
+// An open block: whether its first half is taken, whether its second is, and whether its `else` is past. One flag does
+// not say the other: in lines not taken neither half is.
 #[derive(Clone, Copy, Default)]
 pub struct OpenBlock {
     pub first: bool,
@@ -39,7 +40,7 @@ pub enum BlockLine {
 }
 
 // What a line has to know of the blocks around it: how many conditions it may have, whether it is taken, whether `else`
-// and whether `endIf` may stand.
+// and whether `endIf` may stand. Each answers what another word asks.
 #[derive(Clone, Copy)]
 pub struct Around {
     pub room: usize,

@@ -62,7 +62,8 @@ module _ (ws old : List ℕ) where
     pub builds_refused : (e : Refused) → refused (number_of e.refusal) e.place ≡ lent_table ws → Builds ws old (Err e) old
     builds_refused e lent = let plan = plan_of lent in record { answer = rw plan; buffer = rw plan }
 
-    pub builds_order : (n : ℕ) {new : List ℕ} → 2 * n ≤ length ws → answered (definitions n ws) ≡ lent_table ws → new ≡ over (order_of ws n) old → Builds ws old (Ok n) new
+    pub builds_order : (n : ℕ) {new : List ℕ} → 2 * n ≤ length ws → answered (definitions n ws) ≡ lent_table ws → new ≡ over (order_of ws n) old
+        → Builds ws old (Ok n) new
     builds_order n fits lent w =
         let plan = plan_of lent in
         let e = definitions_length n ws fits in
@@ -102,7 +103,8 @@ module _ (ws os : List ℕ) (n : ℕ) (passed : Passed ws os n) where
     search_no_scalar other = search_passed (rw (← other))
 
     -- s is what a call sought in the words and the order that were lent
-    pub search_found : {vs ps : List ℕ} {s : Sought} → true ≡ is_scalar c → (vs ≡ ws) × (ps ≡ os) → s ≡ sought_of ps (searched vs ps n c) → answered s ≡ search_reply ws os c
+    pub search_found : {vs ps : List ℕ} {s : Sought} → true ≡ is_scalar c → (vs ≡ ws) × (ps ≡ os) → s ≡ sought_of ps (searched vs ps n c)
+        → answered s ≡ search_reply ws os c
     search_found scalar both e = search_passed (rw (← scalar, e, both.0, both.1))
 
     -- the plain answer
@@ -118,7 +120,8 @@ module _ (ws os : List ℕ) (n : ℕ) (passed : Passed ws os n) where
     unfolding lookup_reply
     look_no_scalar other = look_passed (rw (passed.lent, ← other))
 
-    pub look_answered : {vs : List ℕ} {a : Answer} → true ≡ is_scalar c → vs ≡ ws → a ≡ lookup (charset_of vs) (table_of n vs) c → answered a ≡ ordered_lookup ws os c
+    pub look_answered : {vs : List ℕ} {a : Answer} → true ≡ is_scalar c → vs ≡ ws → a ≡ lookup (charset_of vs) (table_of n vs) c
+        → answered a ≡ ordered_lookup ws os c
     look_answered scalar same e = look_passed (look_plain scalar same e)
 
   module _ (cs cells rules : List ℕ) {s : Option ℕ} (from : s ≡ first_no_scalar cs 0) (h : length cs ≤ length cells) (g : length cs ≤ length rules) where
@@ -126,7 +129,8 @@ module _ (ws os : List ℕ) (n : ℕ) (passed : Passed ws os n) where
     unfolding ordered_plan page_plan
     planned = rw (le-ltb (length cells) (length cs) h, le-ltb (length rules) (length cs) g, passed.table, passed.lent, from)
 
-    pub page_no_scalar : (i : ℕ) → s ≡ Some i → Pages (λ reply. reply) (ordered_plan ws os cs (length cells) (length rules)) cs cells rules (refused 14 i) cells rules
+    pub page_no_scalar : (i : ℕ) → s ≡ Some i
+        → Pages (λ reply. reply) (ordered_plan ws os cs (length cells) (length rules)) cs cells rules (refused 14 i) cells rules
     page_no_scalar i e = pages_refused (planned ∙ rw e)
 
     pub page_shown : {vs new-cells new-rules : List ℕ} → s ≡ None → vs ≡ ws
@@ -144,11 +148,13 @@ module _ (ws : List ℕ) (T : Table) {set : ℕ} (own : set ≡ charset_of ws) w
   by_own c e = by_last (charset_of ws) T c refl (rw own at e)
 
   module _ (cs old : List ℕ) {new : List ℕ} where
-    pub own_cells : new ≡ over (map (λ (c : ℕ). (lookup_by set T (last_cells T) c).cell) cs) old → new ≡ over (map (λ (c : ℕ). (lookup (charset_of ws) T c).cell) cs) old
+    pub own_cells : new ≡ over (map (λ (c : ℕ). (lookup_by set T (last_cells T) c).cell) cs) old
+        → new ≡ over (map (λ (c : ℕ). (lookup (charset_of ws) T c).cell) cs) old
     unfolding lookup rules_from3 candidates
     own_cells e = rw own at e
 
-    pub own_rules : new ≡ over (map (λ (c : ℕ). (lookup_by set T (last_cells T) c).rule) cs) old → new ≡ over (map (λ (c : ℕ). (lookup (charset_of ws) T c).rule) cs) old
+    pub own_rules : new ≡ over (map (λ (c : ℕ). (lookup_by set T (last_cells T) c).rule) cs) old
+        → new ≡ over (map (λ (c : ℕ). (lookup (charset_of ws) T c).rule) cs) old
     unfolding lookup rules_from3 candidates
     own_rules e = rw own at e
 

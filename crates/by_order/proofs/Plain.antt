@@ -56,7 +56,8 @@ as_plain ws os e = record {
 -- ---- after building
 
 module _ (ws old : List ℕ) (room : definition_limit ≤ length old) where
-  passes : (lent : Reply (List Definition)) → lent_table ws ≡ lent → ordered_table ws (written_over (and_then lent (λ ds. answered (order_of ws (length ds)))) old) ≡ lent
+  passes : (lent : Reply (List Definition)) → lent_table ws ≡ lent
+      → ordered_table ws (written_over (and_then lent (λ ds. answered (order_of ws (length ds)))) old) ≡ lent
   unfolding ordered_table
   passes (answered ds) e =
       let os = order_of ws (length ds) in
@@ -142,7 +143,8 @@ module _ (ws os : List ℕ) (ds : List Definition) (e : ordered_table ws os ≡ 
 -- ---- how large the numbers of an answer are
 
 -- r is what the lookup call answered
-pub ordered_small : (ws os : List ℕ) (c : ℕ) {r : Result Answer Refused} {a : Answer} → reply_of r ≡ ordered_lookup ws os c → r ≡ Ok a → a.links ≤ definition_limit
+pub ordered_small : (ws os : List ℕ) (c : ℕ) {r : Result Answer Refused} {a : Answer} → reply_of r ≡ ordered_lookup ws os c → r ≡ Ok a
+    → a.links ≤ definition_limit
 unfolding ordered_lookup
 ordered_small ws os c {r} {a} p q = go (ordered_table ws os) p
   where

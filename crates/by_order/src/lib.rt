@@ -115,7 +115,8 @@ fn seek(in_order: &InOrder<'_>, c: u32) -> Sought
     }
 }
 
-// The search call: any slices, any number.
+// The search call: any slices, any number. The lookup call begins with the same two tests: a function for both calls
+// would have to promise each of them.
 pub fn search(words: &[u32], order: &[u32], c: u32) -> Result<Sought, Refused>
     ensures { reply_of result ≡ search_reply words.now order.now c }
 {
@@ -153,7 +154,8 @@ pub fn look_up_by(words: &[u32], order: &[u32], c: u32) -> Result<Answer, Refuse
     Ok(answer_in(&in_order, c))
 }
 
-// Fills both buffers, a cell and a rule for each character, with answers that are kept on the way.
+// Fills both buffers, a cell and a rule for each character, with answers that are kept on the way. The loop is that of
+// `lookup::fill` but for its memory, which each character may change.
 fn fill_kept<T: Finder + Copy>(
     memory: &mut Memory<T>,
     characters: &[u32],

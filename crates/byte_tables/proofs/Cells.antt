@@ -10,7 +10,8 @@ cells_length places [] byte = refl
 cells_length places (s ∷ ss) byte = ap suc (cells_length places ss (byte + 1))
 
 -- the cell of one byte
-pub cell_at : (places : List State) (owns : List (Option ℕ)) (byte i : ℕ) → i < length owns → get_or (cells_from places owns byte) i 0 ≡ shown_by places (get_or owns i None) (byte + i)
+pub cell_at : (places : List State) (owns : List (Option ℕ)) (byte i : ℕ) → i < length owns
+    → get_or (cells_from places owns byte) i 0 ≡ shown_by places (get_or owns i None) (byte + i)
 unfolding cells_from
 cell_at places [] byte i h = absurd (omega arith)
 cell_at places (s ∷ ss) byte zero h = let same : byte + 0 ≡ byte = omega arith in rw same
@@ -24,5 +25,6 @@ pub cells_written : (places : List State) (owns : List (Option ℕ)) (cells : Li
 cells_written places owns cells size long each =
     let own : ℕ → ℕ = (λ k. shown_by places (get_or owns k None) k) in
     let all = cells_from places owns 0 in
-    let here : (k : ℕ) → k < 256 → get_or all k 0 ≡ own k = (λ k h. let zero-on : 0 + k ≡ k = omega arith in rw zero-on at (cell_at places owns 0 k (omega arith))) in
+    let here : (k : ℕ) → k < 256 → get_or all k 0 ≡ own k =
+    (λ k h. let zero-on : 0 + k ≡ k = omega arith in rw zero-on at (cell_at places owns 0 k (omega arith))) in
     fill_by_all own cells 256 0 long each ∙ sym (fill_by_all own all 256 0 (omega (arith, cells_length places owns 0)) here)

@@ -1,14 +1,14 @@
 -- One line more, and the lines of a text one after another.
-use Rattle.std.proofs.Common.{◌≡◌, sym, ℕ, ◌+◌, ◌-◌, ◌≤◌, ◌<◌, Bool, true, false, not, List, length, take, drop, get_or, set, None, Some, Result, Ok, Err, arith}
+use Rattle.std.proofs.Common.{◌≡◌, sym, ℕ, ◌+◌, ◌-◌, ◌≤◌, ◌<◌, Bool, true, false, not, List, length, take, drop, get_or, set, None, Some, Result}
+use Rattle.std.proofs.Common.{Ok, Err, arith}
 use borrow.Author.Tests.{lt-ltb, not-true, not-false}
 use Rattle.basics.proofs.Tests.{told, by_cases}
 use Rattle.basics.specs.declared.Refusal.TheVariants.{AlreadyDefined, TextTooLong, LineTooLong, UnknownCharset}
 use Rattle.scalars.specs.Characters.{is_charset}
-use Rattle.lines.specs.Texts.{text_limit, line_limit, opening_of, Step, next, stop, Outcome, rejected, run_text, outcome_column, rejection_of}
+use Rattle.lines.specs.Texts.{text_limit, line_limit, opening_of, Step, next, stop, rejected, run_text, outcome_column, rejection_of}
 use Rattle.lines.specs.Lines.{without_cr}
 use Rattle.lines.specs.Internal.{LineEnd, step_of}
 use Rattle.lines.specs.declared.LineFault.{LineFault}
-use Rattle.lines.specs.declared.Rejection.{Rejection}
 use Rattle.lines.proofs.Texts.{Reached, outcome_of, line_read, line_refused, text_first, text_long, run_column}
 use Rattle.attributes.specs.Compile.{with_dot}
 use Rattle.attributes.specs.declared.DotStates.{DotStates}
@@ -21,12 +21,14 @@ use Rattle.byte_tables.specs.declared.TableLine.{TableLine}
 use Rattle.byte_tables.specs.declared.TableLine.TheVariants.{Skip, Dot, Byte}
 
 -- read is what was answered of a line
-module _ (charset : ℕ) (s : SoFar) (line : List ℕ) (n : ℕ) (read : Result TableLine LineFault) (c : take n line ≡ without_cr line) (e : read ≡ read_table_line charset (take n line)) where
+module _ (charset : ℕ) (s : SoFar) (line : List ℕ) (n : ℕ) (read : Result TableLine LineFault) (c : take n line ≡ without_cr line)
+    (e : read ≡ read_table_line charset (take n line)) where
   step_read : {x : Step SoFar} → x ≡ with_line s read → x ≡ step charset s (without_cr line)
   unfolding step
   step_read h = rw (← c, ← e) h
 
-  pub line_fault : (r : Result Unit LineFault) (t : SoFar) (fault : LineFault) → read ≡ Err fault → r ≡ Err fault → step_of (left_by r t) ≡ step charset s (without_cr line)
+  pub line_fault : (r : Result Unit LineFault) (t : SoFar) (fault : LineFault) → read ≡ Err fault → r ≡ Err fault
+      → step_of (left_by r t) ≡ step charset s (without_cr line)
   line_fault r t fault q p = step_read (rw (q, p))
 
   pub line_skip : (t : TableLine) → read ≡ Ok t → t ≡ Skip → next s ≡ step charset s (without_cr line)
@@ -34,7 +36,8 @@ module _ (charset : ℕ) (s : SoFar) (line : List ℕ) (n : ℕ) (read : Result 
 
   -- a dot's line, o being what was answered of it
   module _ (t : TableLine) (d : DotLine) (o : Result DotStates LineFault) (q : read ≡ Ok t) (z : t ≡ Dot d) (does : step_of o ≡ with_dot s.dots d) where
-    pub dot_fault : (r : Result Unit LineFault) (u : SoFar) (fault : LineFault) → o ≡ Err fault → r ≡ Err fault → step_of (left_by r u) ≡ step charset s (without_cr line)
+    pub dot_fault : (r : Result Unit LineFault) (u : SoFar) (fault : LineFault) → o ≡ Err fault → r ≡ Err fault
+        → step_of (left_by r u) ≡ step charset s (without_cr line)
     dot_fault r u fault p h = step_read (rw (q, z, ← does, p, h))
 
     pub dot_taken : (dots : DotStates) → o ≡ Ok dots → next (so_far s.slots dots s.count) ≡ step charset s (without_cr line)
@@ -68,7 +71,8 @@ module _ (charset : ℕ) (text : List ℕ) (k : Bool) (is : k ≡ is_charset cha
     come_first s short e = rw (e, told is (not-false k q)) (text_first (step charset) begun text short)
 
 -- the next line ends at e, r and t are what a call that took it answered and left
-module _ (charset : ℕ) (text : List ℕ) (at n : ℕ) (s : SoFar) (here : Reached (step charset) text (compiled_bytes charset text) at n s) (e : ℕ) (some : at < length text) (ends : LineEnd text at e)
+module _ (charset : ℕ) (text : List ℕ) (at n : ℕ) (s : SoFar) (here : Reached (step charset) text (compiled_bytes charset text) at n s) (e : ℕ)
+    (some : at < length text) (ends : LineEnd text at e)
     (r : Result Unit LineFault) (t : SoFar) (does : step_of (left_by r t) ≡ step charset s (without_cr (take (e - at) (drop at text)))) where
   pub taken_refused : (fault : LineFault) → r ≡ Err fault → compiled_bytes charset text ≡ outcome_of (rejection_of fault (take (e - at) (drop at text)) n)
   taken_refused fault q = line_refused (step charset) text (compiled_bytes charset text) at n s here e (left_by r t) some ends does fault (rw q)
@@ -78,11 +82,6 @@ module _ (charset : ℕ) (text : List ℕ) (at n : ℕ) (s : SoFar) (here : Reac
 
 pub none_yet : (s : SoFar) → s ≡ begun → (s.dots.lines ≤ 0) × (s.count ≤ 0)
 none_yet s e = rw e (omega arith, omega arith)
-
--- what the code answered of a fault
-pub refused_as : (whole : Outcome SoFar) (here : List ℕ) (n : ℕ) (fault : LineFault) (e : Rejection) → e ≡ rejection_of fault here n → whole ≡ outcome_of (rejection_of fault here n)
-    → rejected e.refusal e.line e.column ≡ whole
-refused_as whole here n fault e q h = rw (q, h)
 
 step_long : (charset : ℕ) (s : SoFar) (line : List ℕ) → line_limit < length line → step charset s line ≡ stop LineTooLong (length line - line_limit)
 unfolding step read_table_line opening_of

@@ -14,7 +14,8 @@ use Rattle.byte_tables.specs.declared.TableLine.TheVariants.{Dot}
 
 pub first_word : (charset : ℕ) (line : List ℕ) (w : Word) (r : Result TableLine LineFault) → w ≡ word_at line 0
     → r ≡ pick (same_bytes (bytes_of line w) (ascii "dot")) (if_ok (dot_at WithFixed line w.end (length line - w.start)) (λ d. Ok (Dot d)))
-    (pick (same_bytes (bytes_of line w) (ascii "byte")) (byte_line charset line w.end (length line - w.start)) (byte_line charset line w.start (length line - w.start)))
+    (pick (same_bytes (bytes_of line w) (ascii "byte")) (byte_line charset line w.end (length line - w.start))
+    (byte_line charset line w.start (length line - w.start)))
     → r ≡ table_line charset line
 unfolding table_line
 first_word charset line w r e h = rw (← e) h

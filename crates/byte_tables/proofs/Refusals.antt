@@ -51,7 +51,8 @@ of_ok : {A B : Type 0} (r : Result A LineFault) (more : A → Result B LineFault
 of_ok (Ok a) more h each = each a
 of_ok (Err fault) more h each = h
 
-of_some : {A B : Type 0} (m : Option A) (none : Result B LineFault) (some : A → Result B LineFault) → Of none → ((a : A) → Of (some a)) → Of (if_some m none some)
+of_some : {A B : Type 0} (m : Option A) (none : Result B LineFault) (some : A → Result B LineFault) → Of none → ((a : A) → Of (some a))
+    → Of (if_some m none some)
 of_some None none some h each = h
 of_some (Some a) none some h each = each a
 
@@ -68,12 +69,14 @@ module _ (charset : ℕ) (line : List ℕ) where
   of_state_at : (states : States) (at : ℕ) → Of (state_at states line at)
   unfolding state_at
   of_state_at states at =
-      of_ok (operand_word line at) _ (of_operand at) (λ w. of_some (state_in states (bytes_of line w)) _ _ refl (λ state. of_ok (ended line w.end) _ (of_ended w.end) (λ u. tt)))
+      of_ok (operand_word line at) _ (of_operand at)
+      (λ w. of_some (state_in states (bytes_of line w)) _ _ refl (λ state. of_ok (ended line w.end) _ (of_ended w.end) (λ u. tt)))
 
   of_dot_at : (states : States) (at left : ℕ) → Of (dot_at states line at left)
   unfolding dot_at
   of_dot_at states at left =
-      of_ok (operand_word line at) _ (of_operand at) (λ w. of_some (dot_number (bytes_of line w)) _ _ refl (λ dot. of_ok (state_at states line w.end) _ (of_state_at states w.end) (λ state. tt)))
+      of_ok (operand_word line at) _ (of_operand at)
+      (λ w. of_some (dot_number (bytes_of line w)) _ _ refl (λ dot. of_ok (state_at states line w.end) _ (of_state_at states w.end) (λ state. tt)))
 
   -- a byte line
   of_byte_at : (at : ℕ) → Of (byte_at charset line at)
@@ -91,7 +94,8 @@ module _ (charset : ℕ) (line : List ℕ) where
   of_byte_line : (at left : ℕ) → Of (byte_line charset line at left)
   unfolding byte_line
   of_byte_line at left =
-      of_ok (byte_at charset line at) _ (of_byte_at at) (λ byte. of_ok (dots_operand_at line byte.after) _ (of_dots_at byte.after) (λ cell. of_ok (ended line cell.after) _ (of_ended cell.after) (λ u. tt)))
+      of_ok (byte_at charset line at) _ (of_byte_at at)
+      (λ byte. of_ok (dots_operand_at line byte.after) _ (of_dots_at byte.after) (λ cell. of_ok (ended line cell.after) _ (of_ended cell.after) (λ u. tt)))
 
   -- any line
   of_table_line : Of (table_line charset line)

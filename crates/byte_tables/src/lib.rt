@@ -220,7 +220,8 @@ fn read_text(charset: u32, text: &[u8]) -> Result<SoFar, Rejection>
     let mut table = SoFar::new();
     let mut line = 1;
     let mut at = 0;
-    // A cursor: where a line ends says where the next one begins.
+    // A cursor: where a line ends says where the next one begins. Each kind of table has such a loop over its own
+    // state; one for all would need a trait for what a line does to it.
     while at < text.len() {
         let end = lines::line_end(text, at);
         let here = &text[at..end];

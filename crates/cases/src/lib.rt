@@ -109,6 +109,7 @@ impl Call {
         })
     }
 
+    // What a call answers of these words. One `match`, in which each call takes what it needs of them.
     fn answer(self, words: &[u32], question: &[u8]) -> Text {
         let n = fields::number(question);
         match self {

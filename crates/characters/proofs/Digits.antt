@@ -1,5 +1,7 @@
 -- Digits as the library reads them, and the number that they are once there is none.
-use Rattle.std.proofs.Common.{◌≡◌, ℕ, ◌+◌, ◌*◌, ◌<◌, ◌≤◌, List, [], ◌∷◌, length, get_or, drop, eqb, ltb, arith, add-one, drop-cons, drop_of_length-le, refl, sym, ap, lt_of_lt_of_le, ◌∙◌, lt-ltb, le-ltb, eqb-true, leb-true, leb-false, ltb-true, leb, Option, unwrap_or}
+use Rattle.std.proofs.Common.{◌≡◌, ℕ, ◌+◌, ◌*◌, ◌<◌, ◌≤◌, List, [], ◌∷◌, length, get_or, drop, eqb, ltb, arith, add-one, drop-cons}
+use Rattle.std.proofs.Common.{drop_of_length-le, refl, sym, ap, lt_of_lt_of_le, ◌∙◌, lt-ltb, le-ltb, eqb-true, leb-true, leb-false, ltb-true, leb}
+use Rattle.std.proofs.Common.{Option, unwrap_or}
 use Rattle.std.specs.Bool.{then_some}
 use Rattle.std.specs.Char.{digit_value}
 use mathlib.Core.Bool.{and-false}
@@ -38,7 +40,8 @@ module _ (base : Base) (n b : ℕ) (small : b < 256) where
   unfolding with_digit
   no_digit high = rw (le-ltb (digit_of b) (radix base) (too_high high))
 
-  pub digit_next : (d : ℕ) (r : Option ℕ) → digit_value b < radix base → d ≡ digit_value b → r ≡ then_some (leb (n * radix base + d) 0x10FFFF) (n * radix base + d)
+  pub digit_next : (d : ℕ) (r : Option ℕ) → digit_value b < radix base → d ≡ digit_value b
+      → r ≡ then_some (leb (n * radix base + d) 0x10FFFF) (n * radix base + d)
       → unwrap_or r no_number ≡ with_digit (radix base) n (digit_of b)
   unfolding with_digit
   digit_next d r low e q =

@@ -63,7 +63,8 @@ typed_small : (ds : List Definition) → AllInRange ds → (cell : ℕ) → char
 unfolding typed_in
 typed_small [] f cell = omega arith
 typed_small (d ∷ ds) f cell =
-    either (λ (m : Option ℕ). character_code m < 2 ^ 32) (types d.meaning cell) (omega (arith, operand_small d.character f.0.character)) (typed_small ds f.1 cell)
+    either (λ (m : Option ℕ). character_code m < 2 ^ 32) (types d.meaning cell) (omega (arith, operand_small d.character f.0.character))
+    (typed_small ds f.1 cell)
 
 pub entries_fit : (ws : List ℕ) {es : List (Option ℕ)} → es ≡ typing_entries ws → EntriesFit es
 entries_fit ws e = rw e (go (lent_table ws) refl)
@@ -81,5 +82,6 @@ entries_fit ws e = rw e (go (lent_table ws) refl)
 -- ---- what the byte table's call leaves
 
 -- its cells are written also where its text is refused
-pub bytes_left : (charset : ℕ) (text : List ℕ) {all : List ℕ} (old : List ℕ) {left : List ℕ} → cell_count ≤ length old → all ≡ outcome_cells (compiled_bytes charset text) → left ≡ over all old → left ≡ byte_cells_after charset text old
+pub bytes_left : (charset : ℕ) (text : List ℕ) {all : List ℕ} (old : List ℕ) {left : List ℕ} → cell_count ≤ length old
+    → all ≡ outcome_cells (compiled_bytes charset text) → left ≡ over all old → left ≡ byte_cells_after charset text old
 bytes_left charset text old long from e = rw (le-ltb (length old) cell_count long, ← from) e

@@ -109,6 +109,7 @@ pub fn put_cells(places: [State; 8], cells: &mut [u8])
     requires { cell_count ≤ length cells.old }
     ensures { cells.new ≡ over (cells_of places) cells.old }
 {
+    // A place below 256 is a byte.
     for byte in 0..CELL_COUNT {
         cells[byte] = attributes::attribute_cell(places, byte as u8);
     }

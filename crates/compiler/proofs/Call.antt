@@ -54,7 +54,8 @@ module _ (text empty ws : List ℕ) (s : State) (at : ℕ) (here : Come text emp
   beyond_stays : drop table_words ws ≡ drop table_words empty
   beyond_stays = same_beyond ws empty here.beyond
 
-  pub come_end : {r : Result ℕ Rejection} {last : List ℕ} → length text ≤ at → Settled (closing (accepted (standing ws s))) ws r last → Settled (compiled (charset_of empty) text) empty r last
+  pub come_end : {r : Result ℕ Rejection} {last : List ℕ} → length text ≤ at → Settled (closing (accepted (standing ws s))) ws r last
+      → Settled (compiled (charset_of empty) text) empty r last
   unfolding compiled
   come_end h t =
       let gives = lines_read steps text (run_text steps begun text) at (s.lines + 1) (standing ws s) here.reached h in
@@ -70,14 +71,17 @@ module _ (text empty ws : List ℕ) (s : State) (at : ℕ) (here : Come text emp
         let does = rw set_stays at left.does in
         let counts = step_counts (charset_of empty) (standing ws s) (without_cr line) (sym does) in
         record {
-          reached = rw (← counts) at (line_read steps text (run_text steps begun text) at (s.lines + 1) (standing ws s) here.reached e (Ok (standing new t)) some ends does (standing new t) refl);
+          reached = rw (← counts) at
+              (line_read steps text (run_text steps begun text) at (s.lines + 1) (standing ws s) here.reached e (Ok (standing new t)) some ends does
+              (standing new t) refl);
           written = left.written;
           beyond = left.beyond ∙ here.beyond;
           same = same ∙ here.same;
         }
 
     -- the words are zeroed
-    pub come_refused : (fault : LineFault) → Leaves ws s (without_cr line) (Err fault) new → {rejection : Rejection} {last : List ℕ} → rejection ≡ rejection_of fault line (s.lines + 1)
+    pub come_refused : (fault : LineFault) → Leaves ws s (without_cr line) (Err fault) new → {rejection : Rejection} {last : List ℕ}
+        → rejection ≡ rejection_of fault line (s.lines + 1)
         → last ≡ replicate table_words 0 ++ drop table_words new → Settled (compiled (charset_of empty) text) empty (Err rejection) last
     unfolding compiled
     come_refused fault left c z =

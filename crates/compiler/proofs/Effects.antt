@@ -36,7 +36,8 @@ use Rattle.compiler.specs.declared.State.{State}
 module _ (charset : ℕ) (ds : List Definition) (bs : List OpenBlock) (line : List ℕ) where
   -- the definition that takes effect at a line
   module _ {d : Definition} {left : ℕ} where
-    effect_read : line_effect charset ds bs line ≡ Ok (Define d left) → (read_line charset ds (around_of bs) line ≡ Ok (Define d left)) × (verdict_of ds d ≡ Ok tt)
+    effect_read : line_effect charset ds bs line ≡ Ok (Define d left)
+        → (read_line charset ds (around_of bs) line ≡ Ok (Define d left)) × (verdict_of ds d ≡ Ok tt)
     unfolding line_effect
     effect_read e = go (read_line charset ds (around_of bs) line) e
       where
@@ -45,7 +46,8 @@ module _ (charset : ℕ) (ds : List Definition) (bs : List OpenBlock) (line : Li
         judge (Ok u) d₁ left₁ p e = (e, let q : verdict_of ds d ≡ Ok u = cc in q)
         judge (Err refusal) d₁ left₁ p e = (cc, cc)
 
-        go : (r : Result Reading LineFault) → if_ok r (λ reading. effect_of ds reading) ≡ Ok (Define d left) → (r ≡ Ok (Define d left)) × (verdict_of ds d ≡ Ok tt)
+        go : (r : Result Reading LineFault) → if_ok r (λ reading. effect_of ds reading) ≡ Ok (Define d left)
+            → (r ≡ Ok (Define d left)) × (verdict_of ds d ≡ Ok tt)
         go (Err fault) e = (cc, cc)
         go (Ok NoEffect) e = (cc, cc)
         go (Ok (Define d₁ left₁)) e = judge (verdict_of ds d₁) d₁ left₁ refl e
@@ -62,7 +64,8 @@ module _ (charset : ℕ) (ds : List Definition) (bs : List OpenBlock) (line : Li
   unfolding line_effect
   effect_block {read} e = go (read_line charset ds (around_of bs) line) e
     where
-      judge : (v : Result (Unit {0}) Refusal) (d : Definition) (left : ℕ) → judged v d left ≡ Ok (Block read) → ◌≡◌ {A = Result Reading LineFault} (Ok (Define d left)) (Ok (Block read))
+      judge : (v : Result (Unit {0}) Refusal) (d : Definition) (left : ℕ) → judged v d left ≡ Ok (Block read)
+          → ◌≡◌ {A = Result Reading LineFault} (Ok (Define d left)) (Ok (Block read))
       judge (Ok u) d left e = e
       judge (Err refusal) d left e = cc
 
@@ -75,7 +78,8 @@ module _ (charset : ℕ) (ds : List Definition) (bs : List OpenBlock) (line : Li
   effect_had_room : {read : BlockLine} → line_effect charset ds bs line ≡ Ok (Block read) → RoomFor (around_of bs).room read
   effect_had_room e = line_had_room charset ds (around_of bs) line (effect_block e)
 
-  pub effect_no_half : {first second : Bool} → (around_of bs).taken ≡ false → line_effect charset ds bs line ≡ Ok (Block (Open first second)) → (first ≡ false) × (second ≡ false)
+  pub effect_no_half : {first second : Bool} → (around_of bs).taken ≡ false → line_effect charset ds bs line ≡ Ok (Block (Open first second))
+      → (first ≡ false) × (second ≡ false)
   effect_no_half untaken e = line_no_half charset ds (around_of bs) line untaken (effect_block e)
 
 -- a line that is not refused is counted
@@ -106,7 +110,8 @@ module _ (ws : List ℕ) (s : State) (w : Written ws s.count) (line : List ℕ) 
     pub had_room : RoomFor (depth_limit - s.blocks.depth) read
     had_room = rw (room_left s.blocks) at (effect_had_room (charset_of ws) (definitions s.count ws) (blocks_of s.blocks) line (sym e))
 
-    pub leaves_changed : {new : Blocks} → Changed s.blocks read (s.lines + 1) new → Leaves ws s line (Ok (record { count = s.count; lines = s.lines + 1; blocks = new })) ws
+    pub leaves_changed : {new : Blocks} → Changed s.blocks read (s.lines + 1) new
+        → Leaves ws s line (Ok (record { count = s.count; lines = s.lines + 1; blocks = new })) ws
     unfolding step
     leaves_changed h = record { does = rw (← e, h.blocks, h.starts); written = w; beyond = refl }
 
@@ -128,7 +133,8 @@ module _ (ws : List ℕ) (s : State) (w : Written ws s.count) (line : List ℕ) 
     pub put_small : word_of d.meaning < 4 * kind_unit
     put_small = (store_fits ws s.count w d room fits).1
 
-    pub leaves_stored : {new : List ℕ} → new ≡ stored ws s.count d → Leaves ws s line (Ok (record { count = s.count + 1; lines = s.lines + 1; blocks = s.blocks })) new
+    pub leaves_stored : {new : List ℕ} → new ≡ stored ws s.count d
+        → Leaves ws s line (Ok (record { count = s.count + 1; lines = s.lines + 1; blocks = s.blocks })) new
     unfolding step
     leaves_stored z =
         rw z (record {
@@ -138,5 +144,6 @@ module _ (ws : List ℕ) (s : State) (w : Written ws s.count) (line : List ℕ) 
         })
 
 -- the same of a line with its CR
-pub leaves_trimmed : (old : List ℕ) (s : State) (line : List ℕ) (n : ℕ) (r : Result State LineFault) (new : List ℕ) → take n line ≡ without_cr line → Leaves old s (take n line) r new → Leaves old s (without_cr line) r new
+pub leaves_trimmed : (old : List ℕ) (s : State) (line : List ℕ) (n : ℕ) (r : Result State LineFault) (new : List ℕ) → take n line ≡ without_cr line
+    → Leaves old s (take n line) r new → Leaves old s (without_cr line) r new
 leaves_trimmed old s line n r new e h = rw e at h

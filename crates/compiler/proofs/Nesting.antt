@@ -23,7 +23,8 @@ abbrev Nested : List OpenBlock → Type 0
 Nested [] = Unit
 Nested (b ∷ bs) = ((around_of bs).taken ≡ false → (b.first ≡ false) × (b.second ≡ false)) × Nested bs
 
-after_nested : (read : BlockLine) (bs : List OpenBlock) → ((first second : Bool) → read ≡ Open first second → (around_of bs).taken ≡ false → (first ≡ false) × (second ≡ false)) → Nested bs
+after_nested : (read : BlockLine) (bs : List OpenBlock)
+    → ((first second : Bool) → read ≡ Open first second → (around_of bs).taken ≡ false → (first ≡ false) × (second ≡ false)) → Nested bs
     → Nested (blocks_after read bs)
 after_nested (Open first second) bs opens h = (λ untaken. opens first second refl untaken, h)
 after_nested Else [] opens h = tt
@@ -61,5 +62,6 @@ all_taken (b ∷ bs) h t = (t, all_taken bs h.1 (outer (around_of bs).taken refl
         absurd (let z : ◌≡◌ {A = ℕ} 0 1 = cc in omega arith)
 
 -- behind any lines of a text: where the next one is taken, each block around it is in a half that is
-pub taken_within : (charset : ℕ) (ls : List (List ℕ)) {s : SoFar} → run_lines (step charset) ls 1 begun ≡ accepted s → (around_of s.blocks).taken ≡ true → AllTaken s.blocks
+pub taken_within : (charset : ℕ) (ls : List (List ℕ)) {s : SoFar} → run_lines (step charset) ls 1 begun ≡ accepted s
+    → (around_of s.blocks).taken ≡ true → AllTaken s.blocks
 taken_within charset ls {s} run t = all_taken s.blocks (run_keeps (step charset) (λ s. Nested s.blocks) (step_nested charset) ls 1 begun run tt) t

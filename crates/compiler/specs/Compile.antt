@@ -1,4 +1,5 @@
--- Compiling: what a line does to the definitions and the open blocks so far, and what the compile call answers and writes.
+-- Compiling: what a line does to the definitions and the open blocks so far, and what the compile call answers and
+-- writes.
 use Rattle.std.specs.Prelude.{ℕ, ◌+◌, not, ◌||◌, List, [], ◌∷◌, ◌++◌, length, drop, replicate, ltb, Result, Ok, Err}
 use Rattle.basics.specs.Choice.{pick, if_ok}
 use Rattle.basics.specs.Refusals.{Reply, refused}
@@ -7,7 +8,8 @@ use Rattle.basics.specs.declared.Refusal.TheVariants.{UnclosedBlock}
 use Rattle.scalars.specs.Characters.{is_charset}
 use Rattle.lines.specs.declared.LineFault.{LineFault}
 use Rattle.lines.specs.Lines.{without_cr}
-use Rattle.lines.specs.Texts.{text_limit, Step, next, stop, Outcome, accepted, rejected, run_text, outcome_reply, outcome_column}
+use Rattle.lines.specs.Texts.{text_limit, Step, next, stop}
+use Rattle.lines.specs.Texts.{Outcome, accepted, rejected, run_text, outcome_reply, outcome_column}
 use Rattle.blocks.specs.Blocks.{around_of, blocks_after, starts_after}
 use Rattle.blocks.specs.declared.OpenBlock.{OpenBlock}
 use Rattle.definitions.specs.declared.Definition.{Definition}
@@ -27,11 +29,13 @@ effect_of ds NoEffect = Ok NoEffect
 effect_of ds (Define d left) = judged (verdict_of ds d) d left
 effect_of ds (Block line) = Ok (Block line)
 
--- what a line does inside these open blocks, in a local character set: its first fault, nothing, the definition that takes effect, or what it does to the blocks
+-- what a line does inside these open blocks, in a local character set: its first fault, nothing, the definition that
+-- takes effect, or what it does to the blocks
 unfoldable pub line_effect : ℕ → List Definition → List OpenBlock → List ℕ → Result Reading LineFault
 line_effect charset ds bs line = if_ok (read_line charset ds (around_of bs) line) (λ reading. effect_of ds reading)
 
--- what the lines so far leave: their definitions, the open blocks, the lines that opened these, and how many lines there were
+-- what the lines so far leave: their definitions, the open blocks, the lines that opened these, and how many lines
+-- there were
 pub record SoFar : Type 0 where
   pub definitions : List Definition
   pub blocks : List OpenBlock
@@ -70,7 +74,8 @@ unfoldable pub compiled : ℕ → List ℕ → Outcome (List Definition)
 compiled charset text = closing (run_text (step charset) begun text)
 
 -- the definitions that take effect at some lines, after the definitions and inside the open blocks of the lines before
-abbrev pub and_after : List Definition → List OpenBlock → Result Reading LineFault → (List Definition → List OpenBlock → List Definition) → List Definition
+abbrev pub and_after : List Definition → List OpenBlock → Result Reading LineFault
+    → (List Definition → List OpenBlock → List Definition) → List Definition
 and_after ds bs (Err fault) more = []
 and_after ds bs (Ok NoEffect) more = more ds bs
 and_after ds bs (Ok (Define d left)) more = d ∷ more (ds ++ d ∷ []) bs
@@ -78,7 +83,8 @@ and_after ds bs (Ok (Block line)) more = more ds (blocks_after line bs)
 
 unfoldable pub effects_within : ℕ → List Definition → List OpenBlock → List (List ℕ) → List Definition
 effects_within charset ds bs [] = []
-effects_within charset ds bs (l ∷ ls) = and_after ds bs (line_effect charset ds bs (without_cr l)) (λ ds' bs'. effects_within charset ds' bs' ls)
+effects_within charset ds bs (l ∷ ls) =
+    and_after ds bs (line_effect charset ds bs (without_cr l)) (λ ds' bs'. effects_within charset ds' bs' ls)
 
 -- where no block is open before the first of the lines
 abbrev pub effects : ℕ → List Definition → List (List ℕ) → List Definition
@@ -88,7 +94,8 @@ effects charset ds ls = effects_within charset ds [] ls
 abbrev pub compiled_count : Outcome (List Definition) → Reply ℕ
 compiled_count outcome = outcome_reply (λ (ds : List Definition). length ds) outcome
 
--- the compile call, for a slice of so many words: 21, then 2, then 1, then the first faulty line, then a block that is open at the end
+-- the compile call, for a slice of so many words: 21, then 2, then 1, then the first faulty line, then a block that is
+-- open at the end
 unfoldable pub compile_reply : ℕ → List ℕ → ℕ → Reply ℕ
 compile_reply charset text words =
     let read : Reply ℕ = compiled_count (compiled charset text) in
@@ -96,7 +103,8 @@ compile_reply charset text words =
 
 -- and the column of its refusal, which 21 and 2 do not have
 unfoldable pub compile_column : ℕ → List ℕ → ℕ → ℕ
-compile_column charset text words = pick (is_charset charset) (pick (ltb words table_words) 0 (outcome_column (compiled charset text))) 0
+compile_column charset text words =
+    pick (is_charset charset) (pick (ltb words table_words) 0 (outcome_column (compiled charset text))) 0
 
 -- the 2,050 words: zero where the text is refused
 abbrev pub outcome_words : ℕ → Outcome (List Definition) → List ℕ

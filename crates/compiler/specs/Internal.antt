@@ -35,7 +35,8 @@ pub record Leaves (old : List ℕ) (s : State) (line : List ℕ) (r : Result Sta
   pub beyond : drop pair_words new ≡ drop pair_words old
 
 -- the answer, its column, and the words, by what a text gives
-pub record Settled (gives : Outcome (List Definition)) (old : List ℕ) (r : Result ℕ Rejection) (new : List ℕ) : Type 0 where
+pub record Settled (gives : Outcome (List Definition)) (old : List ℕ) (r : Result ℕ Rejection) (new : List ℕ)
+    : Type 0 where
   pub answer : compiled_reply r ≡ compiled_count gives
   pub column : compiled_column r ≡ outcome_column gives
   pub words : new ≡ outcome_words (charset_of old) gives ++ drop table_words old

@@ -5,9 +5,10 @@ ghost use Rattle.std.specs.Prelude.{◌≡◌, ◌≤◌, ◌<◌, length};
 ghost use Rattle.lines.specs.Lines.{without_cr};
 ghost use Rattle.lines.specs.Texts.{text_limit, accepted, compiled_reply, compiled_column};
 ghost use Rattle.blocks.specs.Internal.{blocks_of};
-ghost use Rattle.pairs.specs.Words.{charset_of, definitions};
-ghost use Rattle.table.specs.Internal.{Written};
-ghost use Rattle.compiler.specs.Compile.{effect_of, line_effect, closing, compiled, compile_reply, compile_column, compile_words};
+ghost use Rattle.pairs.specs.Words.{charset_of};
+ghost use Rattle.table.specs.Internal.{Written, known};
+ghost use Rattle.compiler.specs.Compile.{effect_of, line_effect, closing, compiled};
+ghost use Rattle.compiler.specs.Compile.{compile_reply, compile_column, compile_words};
 ghost use Rattle.compiler.specs.Internal.{standing, Leaves, Settled};
 
 use basics::Refusal;
@@ -27,7 +28,7 @@ pub struct State {
 
 // What a line as read does: 22 and 11 to 13 refuse a definition that would take effect.
 fn effect_of(pairs: Pairs<'_>, reading: Reading) -> Result<Reading, LineFault>
-    ensures { result ≡ effect_of (definitions pairs.entry.count pairs.entry.words.now) reading }
+    ensures { result ≡ effect_of (known pairs.entry) reading }
 {
     if let Reading::Define(d, left) = reading {
         if let Err(refusal) = pairs::judge(&pairs, d) {
@@ -37,17 +38,19 @@ fn effect_of(pairs: Pairs<'_>, reading: Reading) -> Result<Reading, LineFault>
     Ok(reading)
 }
 
-// What a line, without its end, does: its first fault, nothing, the definition that takes effect, or what it does to the
-// open blocks.
+// What a line, without its end, does: its first fault, nothing, the definition that takes effect, or what it does to
+// the open blocks.
 #[tactic(auto, unfolding(crate::specs::Compile::line_effect))]
 fn line_effect(pairs: Pairs<'_>, blocks: Blocks, line: &[u8]) -> Result<Reading, LineFault>
-    ensures { result ≡ line_effect (charset_of pairs.entry.words.now) (definitions pairs.entry.count pairs.entry.words.now) (blocks_of blocks) line.now }
+    ensures { result
+        ≡ line_effect (charset_of pairs.entry.words.now) (known pairs.entry) (blocks_of blocks) line.now }
 {
     let reading = reader::read_line(pairs, blocks.around(), line)?;
     effect_of(pairs, reading)
 }
 
-// The words and the state after one line more, without its end.
+// The words and the state after one line more, without its end. Both are passed on by themselves: a struct that holds a
+// lent buffer has to promise in each contract that it still holds the same one.
 fn take_line(words: &mut [u32], state: State, line: &[u8]) -> Result<State, LineFault>
     requires written { Written words.old state.count }
     requires few { state.lines < text_limit }
@@ -90,8 +93,8 @@ fn step_line(words: &mut [u32], state: State, line: &[u8]) -> Result<State, Line
     take_line(words, state, &line[..lines::trimmed(line)])
 }
 
-// The answer after all lines: where a block is open, it is refused at the line that opened the innermost, and the words are
-// zeroed.
+// The answer after all lines: where a block is open, it is refused at the line that opened the innermost, and the words
+// are zeroed.
 fn close(words: &mut [u32], state: State) -> Result<usize, Rejection>
     requires { Written words.old state.count }
     ensures { Settled (closing (accepted (standing words.old state))) words.old result words.new }
@@ -122,7 +125,8 @@ fn read_lines(words: &mut [u32], text: &[u8]) -> Result<usize, Rejection>
     };
     let mut at = 0;
 
-    // No `for`: the position goes from line to line.
+    // No `for`: where a line ends says where the next one begins. Each kind of table has such a loop over its own
+    // state; one for all would need a trait for what a line does to it.
     while at < text.len() {
         let end = lines::line_end(text, at);
         let here = &text[at..end];

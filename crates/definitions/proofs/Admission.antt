@@ -22,7 +22,8 @@ use Rattle.definitions.specs.declared.Definition.{Definition}
 use Rattle.definitions.specs.Definitions.{find, target_of, table, alias_of, walk, is_alias, aliases, WholeWalk}
 use Rattle.definitions.specs.Effects.{is_defined, closes_loop, definition_limit, verdict_of}
 use Rattle.definitions.proofs.Finds.{or_else, or_else_nothing, find_append, not_found, not_first, alias_found}
-use Rattle.definitions.proofs.Walks.{Reaches, Here, Link, Walks, walk_reached, walk_unique, Ending, none_ending, put, comes_to, put_ending, comes_returns, returns_comes}
+use Rattle.definitions.proofs.Walks.{Reaches, Here, Link, Walks, walk_reached, walk_unique, Ending, none_ending, put, comes_to, put_ending}
+use Rattle.definitions.proofs.Walks.{comes_returns, returns_comes}
 
 -- ---- one definition
 
@@ -59,7 +60,8 @@ module _ (ds : List Definition) (d : Definition) {b : Bool} (row : b ≡ is_brai
     unfolding verdict_of
     judged_defined e = rw (← row, other, ← found, e)
 
-    pub judged_new : {v : Result (Unit {0}) Refusal} → f ≡ None → v ≡ pick (closes_loop ds d) (Err AliasLoop) (pick (leb definition_limit n) (Err TableFull) (Ok tt)) → v ≡ verdict_of ds d
+    pub judged_new : {v : Result (Unit {0}) Refusal} → f ≡ None
+        → v ≡ pick (closes_loop ds d) (Err AliasLoop) (pick (leb definition_limit n) (Err TableFull) (Ok tt)) → v ≡ verdict_of ds d
     unfolding verdict_of
     judged_new e h = rw (← row, other, ← found, e, ap (leb definition_limit) count) h
 
@@ -175,7 +177,8 @@ module _ (links : ℕ → ℕ) (j : ℕ) where
   nearer_more [] l e = absurd (let z : ◌≡◌ {A = ℕ} 0 1 = cc in omega arith)
   nearer_more (d ∷ ds) {c} {t} l e =
       by_test (λ (f : Option Meaning). target_of f ≡ Some t → nearer links j (d ∷ ds) < nearer links (suc j) (d ∷ ds)) (eqb d.character c)
-      (λ p g. rw (eqb-true d.character c p, l, le-ltb j j (omega arith), lt-ltb j (suc j) (omega arith), alias_counts d.meaning g) (omega (arith, nearer_next ds)))
+      (λ p g. rw (eqb-true d.character c p, l, le-ltb j j (omega arith), lt-ltb j (suc j) (omega arith), alias_counts d.meaning g)
+      (omega (arith, nearer_next ds)))
       (λ p g. omega (arith, nearer_one d, nearer_more ds l g))
       e
 
@@ -236,5 +239,7 @@ pub loop_returns : (ds : List Definition) (d : Definition) → Admits [] ds → 
 loop_returns ds d h plain fresh =
     let v = all_end ds h in
     let free = alias_fresh ds d.character fresh in
-    rw (loop_comes ds v d, alias_new ds d plain fresh)
-    (comes_returns (alias_of (table ds)) v d.character free (target_of (Some d.meaning)), returns_comes (alias_of (table ds)) v d.character free (target_of (Some d.meaning)))
+    rw (loop_comes ds v d, alias_new ds d plain fresh) (
+      comes_returns (alias_of (table ds)) v d.character free (target_of (Some d.meaning)),
+      returns_comes (alias_of (table ds)) v d.character free (target_of (Some d.meaning)),
+    )

@@ -14,7 +14,8 @@ use Rattle.definitions.specs.Definitions.{Table, target_of, explicit, alias_of, 
 module _ (T : Table) (c : ℕ) where
   -- a walk that begins at what is found for c
   own_by : (f : Option Meaning) (more : ℕ → Walk) → T.found c ≡ f →
-      explicit T c ≡ pick (eqb (follow (target_of f) (record { end = c; links = 0 }) more).links 0) (explicit T (follow (target_of f) (record { end = c; links = 0 }) more).end) None
+      explicit T c ≡ pick (eqb (follow (target_of f) (record { end = c; links = 0 }) more).links 0)
+      (explicit T (follow (target_of f) (record { end = c; links = 0 }) more).end) None
   unfolding explicit
   own_by None more p = rw p
   own_by (Some (Typed dots)) more p = rw p

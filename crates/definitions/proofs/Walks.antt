@@ -24,7 +24,8 @@ pub record Walks (alias : ℕ → Option ℕ) (c e k : ℕ) : Type 0 where
   pub ended : alias e ≡ None
 
 -- a whole walk is what a budget of at least its links answers
-pub walk_reached : {alias : ℕ → Option ℕ} {c e k : ℕ} → Reaches alias c k e → alias e ≡ None → (n : ℕ) → k ≤ n → walk_within alias n c ≡ record { end = e; links = k }
+pub walk_reached : {alias : ℕ → Option ℕ} {c e k : ℕ} → Reaches alias c k e → alias e ≡ None → (n : ℕ) → k ≤ n
+    → walk_within alias n c ≡ record { end = e; links = k }
 unfolding walk_within
 walk_reached Here h zero l = refl
 walk_reached Here h (suc n) l = rw h

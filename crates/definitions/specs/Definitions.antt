@@ -1,5 +1,6 @@
 -- Definitions in order of effect: what a character means, its explicit cell, its alias walk, what a cell types.
-use Rattle.std.specs.Prelude.{ℕ, zero, suc, ◌+◌, ◌%◌, ◌≤◌, ◌≡◌, Bool, false, List, [], ◌∷◌, length, eqb, Option, None, Some}
+use Rattle.std.specs.Prelude.{ℕ, zero, suc, ◌+◌, ◌%◌, ◌≤◌, ◌≡◌, Bool, false, eqb}
+use Rattle.std.specs.Prelude.{List, [], ◌∷◌, length, Option, None, Some}
 use Rattle.basics.specs.Choice.{pick}
 use Rattle.scalars.specs.Characters.{is_braille}
 use Rattle.definitions.specs.declared.Meaning.{Meaning}
@@ -14,7 +15,8 @@ find (d ∷ ds) c =
     let rest : Option Meaning = find ds c in
     pick (eqb d.character c) (Some d.meaning) rest
 
--- what is found for a character: a character of the braille row shows its low eight bits, any other what its definition says
+-- what is found for a character: a character of the braille row shows its low eight bits, any other what its definition
+-- says
 unfoldable pub found_in : List Definition → ℕ → Option Meaning
 found_in ds c = pick (is_braille c) (Some (Shown (c % 256))) (find ds c)
 

@@ -22,7 +22,7 @@ pub struct Definition {
     pub meaning: Meaning,
 }
 
-// The end of an alias walk, and how many links it has.
+// The end of an alias walk, and how many links it has. The definition `walk` answers it, no function does.
 #[derive(Clone, Copy)]
 pub struct Walk {
     pub end: u32,

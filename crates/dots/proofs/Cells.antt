@@ -1,5 +1,6 @@
 -- Room for a dot that is not up, and the operands byte by byte.
-use Rattle.std.proofs.Common.{◌≡◌, refl, ap, ℕ, suc, ◌+◌, ◌-◌, ◌*◌, ◌/◌, ◌%◌, ◌^◌, ◌<◌, ◌≤◌, List, Option, None, Some, length, drop, get_or, drop-cons, add-one, arith}
+use Rattle.std.proofs.Common.{◌≡◌, refl, ap, ℕ, suc, ◌+◌, ◌-◌, ◌*◌, ◌/◌, ◌%◌, ◌^◌, ◌<◌, ◌≤◌, List, Option, None, Some, length, drop, get_or}
+use Rattle.std.proofs.Common.{drop-cons, add-one, arith}
 use Rattle.std.proofs.Math.ListN.{drop_of_length-le}
 use lib.Dec.{eqb}
 use borrow.Author.Tests.{eqb-true, eq-eqb, ne_eqb, le-leb, lt-leb}
@@ -63,7 +64,9 @@ module _ (line : List ℕ) (i cell : ℕ) where
   unfolding ends_at
   ends_over h = rw (drop_of_length-le line h)
 
-  pub digits_more : i < length line → digits_at (drop i line) i cell ≡ pick (is_blank (get_or line i 0)) (read cell i) (if_some (raise cell (get_or line i 0)) None (λ n. digits_at (drop (i + 1) line) (i + 1) n))
+  pub digits_more : i < length line
+      → digits_at (drop i line) i cell ≡ pick (is_blank (get_or line i 0)) (read cell i)
+      (if_some (raise cell (get_or line i 0)) None (λ n. digits_at (drop (i + 1) line) (i + 1) n))
   unfolding digits_at
   digits_more h = rw (drop-cons line i 0, add-one i)
 
@@ -71,7 +74,9 @@ module _ (line : List ℕ) (i cell : ℕ) where
   unfolding digits_at
   digits_over h = rw (drop_of_length-le line h)
 
-  pub inside_more : i < length line → inside_at (drop i line) i cell ≡ pick (eqb (get_or line i 0) 41) (ends_at (drop (i + 1) line) (i + 1) cell) (if_some (raise_inside cell (get_or line i 0)) None (λ n. inside_at (drop (i + 1) line) (i + 1) n))
+  pub inside_more : i < length line
+      → inside_at (drop i line) i cell ≡ pick (eqb (get_or line i 0) 41) (ends_at (drop (i + 1) line) (i + 1) cell)
+      (if_some (raise_inside cell (get_or line i 0)) None (λ n. inside_at (drop (i + 1) line) (i + 1) n))
   unfolding inside_at
   inside_more h = rw (drop-cons line i 0, add-one i)
 

@@ -76,7 +76,8 @@ fn digits_at(line: &[u8], at: usize) -> Option<Parsed<u8>>
     })
 }
 
-// Digits and whitespace from `at` on, to the closing parenthesis.
+// Digits and whitespace from `at` on, to the closing parenthesis. Beside `digits_at` by itself: what a blank does and
+// where the dots end are not the same.
 #[tactic(auto, using(crate::proofs::Cells::inside_by))]
 fn inside_at(line: &[u8], at: usize) -> Option<Parsed<u8>>
     requires { at ≤ length line.now }

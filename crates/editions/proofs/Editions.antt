@@ -20,7 +20,8 @@ pub record Ensured (edition charset : ℕ) (text ws : List ℕ) (answer : Result
   pub cells_are : cells ≡ edition_cells edition charset text
 
 module _ (edition charset : ℕ) (text ws : List ℕ) (answer : Result ℕ Rejection) {cells : List ℕ} where
-  pub in_present : (found : Result ℕ Rejection) {left : List ℕ} → edition ≡ 2 → compiled_reply found ≡ compile_reply charset text (length ws) → compiled_column found ≡ compile_column charset text (length ws)
+  pub in_present : (found : Result ℕ Rejection) {left : List ℕ} → edition ≡ 2 → compiled_reply found ≡ compile_reply charset text (length ws)
+      → compiled_column found ≡ compile_column charset text (length ws)
       → left ≡ compile_words charset text ws → answer ≡ found → cells ≡ no_cells → Ensured edition charset text ws answer left cells
   unfolding edition_reply edition_column edition_words edition_cells
   in_present found e p c w a none =
@@ -31,7 +32,8 @@ module _ (edition charset : ℕ) (text ws : List ℕ) (answer : Result ℕ Rejec
         cells_are = rw (eq-eqb edition 2 e) none;
       }
 
-  pub in_first : (edition ≡ 2 → ⊥) → edition ≡ 1 → compiled_reply answer ≡ bytes_reply (compiled_bytes charset text) → compiled_column answer ≡ outcome_column (compiled_bytes charset text)
+  pub in_first : (edition ≡ 2 → ⊥) → edition ≡ 1 → compiled_reply answer ≡ bytes_reply (compiled_bytes charset text)
+      → compiled_column answer ≡ outcome_column (compiled_bytes charset text)
       → cells ≡ outcome_cells (compiled_bytes charset text) → Ensured edition charset text ws answer ws cells
   unfolding edition_reply edition_column edition_words edition_cells
   in_first n e p c all =
@@ -42,7 +44,8 @@ module _ (edition charset : ℕ) (text ws : List ℕ) (answer : Result ℕ Rejec
         cells_are = rw (ne_eqb edition 2 n, eq-eqb edition 1 e) all;
       }
 
-  pub in_no_other : (edition ≡ 2 → ⊥) → (edition ≡ 1 → ⊥) → answer ≡ Err (record { refusal = UnknownEdition; line = 0; column = 0 }) → cells ≡ no_cells → Ensured edition charset text ws answer ws cells
+  pub in_no_other : (edition ≡ 2 → ⊥) → (edition ≡ 1 → ⊥) → answer ≡ Err (record { refusal = UnknownEdition; line = 0; column = 0 })
+      → cells ≡ no_cells → Ensured edition charset text ws answer ws cells
   unfolding edition_reply edition_column edition_words edition_cells
   in_no_other n m a none =
       record {

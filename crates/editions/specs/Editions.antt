@@ -1,5 +1,5 @@
--- The compile call of text tables in both editions: 2, the present one, and 1, byte tables. Any other is refused before all else; the
--- compile call of each edition refuses an unknown set before all else.
+-- The compile call of text tables in both editions: 2, the present one, and 1, byte tables. Any other is refused before
+-- all else; the compile call of each edition refuses an unknown set before all else.
 use Rattle.std.specs.Prelude.{ℕ, List, eqb}
 use Rattle.basics.specs.Choice.{pick}
 use Rattle.basics.specs.Refusals.{Reply, refused}
@@ -13,11 +13,13 @@ in_edition edition present old other = pick (eqb edition 2) present (pick (eqb e
 
 -- the answer, for a slice of so many words: the count of definitions or of byte lines, or the refusal with its line
 unfoldable pub edition_reply : ℕ → ℕ → List ℕ → ℕ → Reply ℕ
-edition_reply edition charset text words = in_edition edition (compile_reply charset text words) (bytes_reply (compiled_bytes charset text)) (refused 20 0)
+edition_reply edition charset text words =
+    in_edition edition (compile_reply charset text words) (bytes_reply (compiled_bytes charset text)) (refused 20 0)
 
 -- and the column of its refusal, which 20 does not have
 unfoldable pub edition_column : ℕ → ℕ → List ℕ → ℕ → ℕ
-edition_column edition charset text words = in_edition edition (compile_column charset text words) (outcome_column (compiled_bytes charset text)) 0
+edition_column edition charset text words =
+    in_edition edition (compile_column charset text words) (outcome_column (compiled_bytes charset text)) 0
 
 -- the lent slice after the call: only edition 2 looks at it
 unfoldable pub edition_words : ℕ → ℕ → List ℕ → List ℕ → List ℕ

@@ -21,7 +21,8 @@ exactly f Saying bs here once = record { sound = λ v e. rw (← e) here; comple
 
 -- ---- UTF-8 is read, and what comes after it stands at its place
 
-scalars_read : {cs : List ℕ} → Scalars cs → (rest : List ℕ) (i : ℕ) → utf8_from (encodings cs ++ rest) i Between ≡ utf8_from rest (i + length (encodings cs)) Between
+scalars_read : {cs : List ℕ} → Scalars cs → (rest : List ℕ) (i : ℕ)
+    → utf8_from (encodings cs ++ rest) i Between ≡ utf8_from rest (i + length (encodings cs)) Between
 scalars_read none rest i = rw (add-zero i)
 scalars_read (one_more {c} {cs} h s) rest i =
     let e : i + length (encoded c) + length (encodings cs) ≡ i + (length (encoded c) + length (encodings cs)) = omega arith in
@@ -57,7 +58,8 @@ read_within zero [] i h = whole nothing
 read_within zero (b ∷ bs) i h = absurd (omega arith)
 read_within (suc n) bs i h = by (start i bs) (λ rest j k. read_within n rest j k) h
   where
-    by : {bs : List ℕ} → Start i bs → ((rest : List ℕ) (j : ℕ) → length rest ≤ n → Read j rest (utf8_from rest j Between)) → length bs ≤ suc n → Read i bs (utf8_from bs i Between)
+    by : {bs : List ℕ} → Start i bs → ((rest : List ℕ) (j : ℕ) → length rest ≤ n → Read j rest (utf8_from rest j Between)) → length bs ≤ suc n
+        → Read i bs (utf8_from bs i Between)
     by over on h = whole nothing
     by (character {c} {f} form rest bs e) on h =
         let k : length rest ≤ n = omega (arith, form_length form, length-append f rest, ap length e) in

@@ -65,7 +65,14 @@ module _ (b i : ℕ) where
   unfolding after_first
   after_four h k =
       let Leads = Lead i 3 (λ y. SecondOfFour b y) in
-      rw (le-ltb b 0x80 (omega arith), le-ltb b 0xC2 (omega arith), le-ltb b 0xE0 (omega arith), ne_eqb b 0xE0 (omega arith), ne_eqb b 0xED (omega arith), le-ltb b 0xF0)
+      rw (
+        le-ltb b 0x80 (omega arith),
+        le-ltb b 0xC2 (omega arith),
+        le-ltb b 0xE0 (omega arith),
+        ne_eqb b 0xE0 (omega arith),
+        ne_eqb b 0xED (omega arith),
+        le-ltb b 0xF0,
+      )
       (if_same Leads b _ (λ l. leads (omega arith))
       (λ l. if_below Leads b _ (λ m. leads (omega arith))
       (λ m. if_same Leads b _ (λ n. leads (omega arith))
@@ -75,7 +82,17 @@ module _ (b i : ℕ) where
   unfolding after_first
   after_over h =
       let l : 0xF0 ≤ b = omega arith in
-      rw (le-ltb b 0x80 (omega arith), le-ltb b 0xC2 (omega arith), le-ltb b 0xE0 (omega arith), ne_eqb b 0xE0 (omega arith), ne_eqb b 0xED (omega arith), le-ltb b 0xF0, ne_eqb b 0xF0 (omega arith), le-ltb b 0xF4 (omega arith), ne_eqb b 0xF4 (omega arith))
+      rw (
+        le-ltb b 0x80 (omega arith),
+        le-ltb b 0xC2 (omega arith),
+        le-ltb b 0xE0 (omega arith),
+        ne_eqb b 0xE0 (omega arith),
+        ne_eqb b 0xED (omega arith),
+        le-ltb b 0xF0,
+        ne_eqb b 0xF0 (omega arith),
+        le-ltb b 0xF4 (omega arith),
+        ne_eqb b 0xF4 (omega arith),
+      )
 
 pub first_byte : (b i : ℕ) (bs : List ℕ) {p : Utf8State} → after_first b i ≡ p → utf8_from (b ∷ bs) i Between ≡ utf8_from bs (i + 1) p
 unfolding utf8_from
@@ -93,7 +110,8 @@ module _ (low high start y : ℕ) (bs : List ℕ) (j : ℕ) where
   unfolding utf8_from after_further
   further_last h k = rw (le-leb low y, le-leb y high)
 
-  further_more : (left : ℕ) → low ≤ y → y ≤ high → utf8_from (y ∷ bs) j (Inside (suc (suc left)) low high start) ≡ utf8_from bs (j + 1) (Inside (suc left) 0x80 0xBF start)
+  further_more : (left : ℕ) → low ≤ y → y ≤ high
+      → utf8_from (y ∷ bs) j (Inside (suc (suc left)) low high start) ≡ utf8_from bs (j + 1) (Inside (suc left) 0x80 0xBF start)
   unfolding utf8_from after_further
   further_more left h k =
       let e : suc (suc left) - 1 ≡ suc left = omega arith in
@@ -142,7 +160,8 @@ find (y ∷ bs) (suc left) low high start = found_within (suc (suc left)) low hi
 -- ---- a character
 
 module _ (b i : ℕ) {left low high : ℕ} (e : after_first b i ≡ Inside left low high i) where
-  sequence_read : {ys : List ℕ} → Furthers left low high ys → (rest : List ℕ) → utf8_from (b ∷ (ys ++ rest)) i Between ≡ utf8_from rest (i + suc (length ys)) Between
+  sequence_read : {ys : List ℕ} → Furthers left low high ys → (rest : List ℕ)
+      → utf8_from (b ∷ (ys ++ rest)) i Between ≡ utf8_from rest (i + suc (length ys)) Between
   sequence_read {ys} f rest =
       let p : i + 1 + length ys ≡ i + suc (length ys) = omega arith in
       first_byte b i (ys ++ rest) e ∙ furthers_read f i rest (i + 1) ∙ rw p
@@ -189,7 +208,8 @@ module _ (b : ℕ) where
       formed ((b - 0xF0) * 262144 + (y - 0x80) * 4096 + (z - 0x80) * 64 + (w - 0x80)) (four (omega arith))
 
 module _ (i b : ℕ) (bs : List ℕ) where
-  start_inside : (left low high : ℕ) → after_first b i ≡ Inside (suc left) low high i → ((ys : List ℕ) → Furthers (suc left) low high ys → Formed (b ∷ ys)) → Start i (b ∷ bs)
+  start_inside : (left low high : ℕ) → after_first b i ≡ Inside (suc left) low high i
+      → ((ys : List ℕ) → Furthers (suc left) low high ys → Formed (b ∷ ys)) → Start i (b ∷ bs)
   start_inside left low high e forms = by (find bs left low high i)
     where
       by : Found (suc left) low high i bs → Start i (b ∷ bs)

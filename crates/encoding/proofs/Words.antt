@@ -123,7 +123,8 @@ word_bytes : (line : List ℕ) (at : ℕ) → bytes_of line (word_at line at) �
 unfolding word_at first_at
 word_bytes line at =
     let start = first_from false (drop at line) at in
-    let e : first_from true (drop start line) start - start ≡ first_from true (drop start line) 0 = omega (arith, first_from_lem true (drop start line) start) in
+    let e : first_from true (drop start line) start - start ≡ first_from true (drop start line) 0 =
+    omega (arith, first_from_lem true (drop start line) start) in
     rw (e, first_from_lem false (drop at line) at, drop-drop (first_from false (drop at line) 0) at line)
 
 -- the claim: on a line that is UTF-8, at any border

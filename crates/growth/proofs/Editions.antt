@@ -8,8 +8,11 @@ use Rattle.growth.specs.Growth.{Lookups, Typings}
 use Rattle.growth.proofs.Growth.{never_spoils}
 
 pub present_never_spoils : (charset : ℕ) (text more slice slice' : List ℕ) → is_ended text ≡ true
-    → (count : ℕ) → edition_reply 2 charset text (length slice) ≡ answered count → (count' : ℕ) → edition_reply 2 charset (text ++ more) (length slice') ≡ answered count'
-    → ((c : ℕ) → is_scalar c ≡ true → Lookups charset text more (edition_words 2 charset text slice) (edition_words 2 charset (text ++ more) slice') c) × Typings (edition_words 2 charset text slice) (edition_words 2 charset (text ++ more) slice')
+    → (count : ℕ) → edition_reply 2 charset text (length slice) ≡ answered count → (count' : ℕ)
+    → edition_reply 2 charset (text ++ more) (length slice') ≡ answered count'
+    → ((c : ℕ) → is_scalar c ≡ true
+    → Lookups charset text more (edition_words 2 charset text slice) (edition_words 2 charset (text ++ more) slice') c)
+    × Typings (edition_words 2 charset text slice) (edition_words 2 charset (text ++ more) slice')
 unfolding edition_reply edition_words
 present_never_spoils charset text more slice slice' ended count accepts count' accepts' =
     let kept = never_spoils charset text more slice slice' (record { ended = ended; count = count; accepts = accepts; count' = count'; accepts' = accepts' }) in

@@ -38,7 +38,8 @@ module _ (charset : ℕ) (text slice : List ℕ) {count : ℕ} (a : AnsweredText
   image = accepted_words charset text slice a.known a.enough a.compiles
 
   compiled_lent : lent_table (compile_words charset text slice) ≡ answered a.definitions
-  compiled_lent = let took = whole_took charset text a.compiles in rw image (image_lent a.definitions took.admits took.fit charset (drop table_words slice) a.known)
+  compiled_lent = let took = whole_took charset text a.compiles in
+      rw image (image_lent a.definitions took.admits took.fit charset (drop table_words slice) a.known)
 
   compiled_set : charset_of (compile_words charset text slice) ≡ charset
   compiled_set = let took = whole_took charset text a.compiles in rw image (image_charset a.definitions took.admits took.fit charset (drop table_words slice))
@@ -90,6 +91,7 @@ never_spoils charset text more slice slice' g =
     let first = compile_words charset text slice in
     let grown = compile_words charset (text ++ more) slice' in
     record {
-      shown = lookups charset text more first grown a.definitions a.compiles h lent lent' (compiled_set charset text slice a) (compiled_set charset (text ++ more) slice' b);
+      shown = lookups charset text more first grown a.definitions a.compiles h lent lent' (compiled_set charset text slice a)
+          (compiled_set charset (text ++ more) slice' b);
       typed = typings charset text more first grown a.definitions a.compiles h lent lent';
     }

@@ -25,5 +25,11 @@ use Rattle.scalars.specs.Characters.{is_charset, character_by, local_of, stands_
 use Rattle.utf8.specs.Utf8.{after_first, after_further, utf8_from}
 
 pub marked_cases : every_one marked ≡ true
-unfolding cell_from read_dot_line dot_step compiled_attributes attribute_of state_of dot_number O.ended state_at dot_at dot_line around_of read_first read_line line_effect step compiled compile_reply compile_words condition_of directive_of finished dots_line alias_line front_of if_holds read_from find found_in explicit alias_of walk_within walk verdict_of words_for comes_out every_one lines_of without_cr opening_of run_lines run_text is_blank first_from first_at word_at same_bytes is_over lookup_reply candidates choose rules_from3 lookup digit_of with_digit digits_from plain_of short_of radix_of word_number character_of operand_of raise_by raise raise_inside ends_at digits_at inside_at cell_at dots_at O.operand_word character_at dots_operand_at zero_from check_from check_of lent_table words_of is_sound_word meaning_of definitions filled_from is_charset character_by local_of stands_for after_first after_further utf8_from
+unfolding cell_from read_dot_line dot_step compiled_attributes attribute_of state_of dot_number O.ended state_at dot_at dot_line around_of read_first
+    read_line line_effect step compiled compile_reply compile_words condition_of directive_of finished dots_line alias_line front_of if_holds
+    read_from find found_in explicit alias_of walk_within walk verdict_of words_for comes_out every_one lines_of without_cr opening_of run_lines
+    run_text is_blank first_from first_at word_at same_bytes is_over lookup_reply candidates choose rules_from3 lookup digit_of with_digit digits_from
+    plain_of short_of radix_of word_number character_of operand_of raise_by raise raise_inside ends_at digits_at inside_at cell_at dots_at
+    O.operand_word character_at dots_operand_at zero_from check_from check_of lent_table words_of is_sound_word meaning_of definitions filled_from
+    is_charset character_by local_of stands_for after_first after_further utf8_from
 marked_cases = refl

@@ -120,7 +120,8 @@ module _ (T G : Table) (keep : (c : ℕ) → Keeps (T.found c) (G.found c)) (who
   candidates_kept : (c : ℕ) → Kept (candidates T c) (candidates G c)
   unfolding candidates
   candidates_kept c =
-      more (cell_kept c) (more (end_kept c) (more (other_kept (base_of c)) (more (other_kept (stand_in_of c)) (more (cell_kept 0xFFFD) (more (cell_kept 0x3F) none)))))
+      more (cell_kept c)
+      (more (end_kept c) (more (other_kept (base_of c)) (more (other_kept (stand_in_of c)) (more (cell_kept 0xFFFD) (more (cell_kept 0x3F) none)))))
 
   -- the rule falls or stays, and the same rule gives the same cell
   pub not_spoiled : (charset c : ℕ) → NotSpoiled (lookup charset T c) (lookup charset G c)
@@ -171,5 +172,7 @@ module _ (ds rs : List Definition) (h : Admits [] (ds ++ rs)) where
   lookup_grown charset c = not_spoiled (table ds) (table (ds ++ rs)) (found_kept ds rs) whole_first whole_grown charset c
 
   -- the answer is the same where no later definition is for any character that it goes by
-  pub lookup_same : (charset c : ℕ) → Each (table ds) (λ x. is_defined rs x ≡ false) (local_of charset c) → lookup charset (table (ds ++ rs)) c ≡ lookup charset (table ds) c
-  lookup_same charset c apart = same_answer (table ds) (table (ds ++ rs)) (found_kept ds rs) whole_first whole_grown charset c (each_map (λ x. found_same ds rs x) apart)
+  pub lookup_same : (charset c : ℕ) → Each (table ds) (λ x. is_defined rs x ≡ false) (local_of charset c)
+      → lookup charset (table (ds ++ rs)) c ≡ lookup charset (table ds) c
+  lookup_same charset c apart =
+      same_answer (table ds) (table (ds ++ rs)) (found_kept ds rs) whole_first whole_grown charset c (each_map (λ x. found_same ds rs x) apart)

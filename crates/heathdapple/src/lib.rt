@@ -24,7 +24,9 @@ use windows::Window;
 // a local character set: the count of definitions or of byte lines, or the refusal with its line and column.
 #[unsafe(no_mangle)]
 pub extern "C" fn heathdapple_compile(edition: u32, set: u32, text: &[u8], words: &mut [u32]) -> u64
-    ensures code { result ≡ compile_code (edition_column edition set text.now (length words.old)) (edition_reply edition set text.now (length words.old)) }
+    ensures code { result
+        ≡ compile_code (edition_column edition set text.now (length words.old))
+        (edition_reply edition set text.now (length words.old)) }
     ensures words { words.new ≡ edition_words edition set text.now words.old }
 {
     compile_code(editions::compile(edition, set, text, words).answer)
@@ -47,7 +49,9 @@ pub extern "C" fn heathdapple_page(
     cells: &mut [u8],
     rules: &mut [u8],
 ) -> u64
-    ensures { Pages filling_code (page_plan words.now characters.now (length cells.old) (length rules.old)) characters.now cells.old rules.old result cells.new rules.new }
+    ensures { Pages filling_code
+        (page_plan words.now characters.now (length cells.old) (length rules.old))
+        characters.now cells.old rules.old result cells.new rules.new }
 {
     filling_code(lookup::page(words, characters, cells, rules))
 }
@@ -61,7 +65,8 @@ pub extern "C" fn heathdapple_windows(
     cells: &mut [u8],
     rules: &mut [u8],
 ) -> u64
-    ensures { PagesWindows filling_code windows.now words.now characters.now cells.old rules.old result cells.new rules.new }
+    ensures { PagesWindows filling_code windows.now words.now characters.now cells.old rules.old
+        result cells.new rules.new }
 {
     filling_code(windows::show(windows, words, characters, cells, rules))
 }
@@ -112,7 +117,9 @@ pub extern "C" fn heathdapple_attribute_cell(text: &[u8], byte: u8) -> u64
 // refusal with its line and column.
 #[unsafe(no_mangle)]
 pub extern "C" fn heathdapple_attribute_cells(text: &[u8], cells: &mut [u8]) -> u64
-    ensures code { result ≡ compile_code (cells_column text.now (length cells.old)) (cells_reply text.now (length cells.old)) }
+    ensures code { result
+        ≡ compile_code (cells_column text.now (length cells.old))
+        (cells_reply text.now (length cells.old)) }
     ensures cells { cells.new ≡ cells_after text.now cells.old }
 {
     if cells.len() < CELL_COUNT {
@@ -129,7 +136,9 @@ pub extern "C" fn heathdapple_attribute_cells(text: &[u8], cells: &mut [u8]) -> 
 // if it is refused: the count of byte lines, or the refusal with its line and column.
 #[unsafe(no_mangle)]
 pub extern "C" fn heathdapple_byte_cells(set: u32, text: &[u8], cells: &mut [u8]) -> u64
-    ensures code { result ≡ compile_code (byte_cells_column set text.now (length cells.old)) (byte_cells_reply set text.now (length cells.old)) }
+    ensures code { result
+        ≡ compile_code (byte_cells_column set text.now (length cells.old))
+        (byte_cells_reply set text.now (length cells.old)) }
     ensures cells { cells.new ≡ byte_cells_after set text.now cells.old }
 {
     if cells.len() < CELL_COUNT {
@@ -188,7 +197,9 @@ pub extern "C" fn heathdapple_page_by(
     cells: &mut [u8],
     rules: &mut [u8],
 ) -> u64
-    ensures { Pages filling_code (ordered_plan words.now order.now characters.now (length cells.old) (length rules.old)) characters.now cells.old rules.old result cells.new rules.new }
+    ensures { Pages filling_code
+        (ordered_plan words.now order.now characters.now (length cells.old) (length rules.old))
+        characters.now cells.old rules.old result cells.new rules.new }
 {
     filling_code(by_order::page_by(words, order, characters, cells, rules))
 }

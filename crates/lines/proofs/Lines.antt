@@ -17,7 +17,8 @@ to_lf_lem [] = refl
 to_lf_lem (b ∷ bs) = by_cases (eqb b LF) (λ q. rw q) (λ q. rw q (omega (arith, to_lf_lem bs)))
 
 -- n is what `position` answers of the text from `at` on, or how many bytes there are
-pub lf_first : (text : List ℕ) (at n : ℕ) (r : Option ℕ) → at ≤ length text → n ≡ unwrap_or r (length (end_of text at)) → r ≡ position (λ b. eqb b LF) (end_of text at) → LineEnd text at (at + n)
+pub lf_first : (text : List ℕ) (at n : ℕ) (r : Option ℕ) → at ≤ length text → n ≡ unwrap_or r (length (end_of text at))
+    → r ≡ position (λ b. eqb b LF) (end_of text at) → LineEnd text at (at + n)
 lf_first text at n r h is e = record {
   is = first_from (λ b. eqb b LF) text at n r is e ∙ ap (λ k. at + k) (sym (to_lf_lem (drop at text)));
   from = omega arith;

@@ -17,7 +17,8 @@ use Rattle.lines.specs.declared.Opening.{Opening}
 use Rattle.lines.specs.declared.Opening.TheVariants.{Skip, Directive}
 use Rattle.lines.specs.declared.LineFault.{LineFault}
 
-pub over_at_lem : (line : List ℕ) (at : ℕ) {w : Word} {r : Bool} → w ≡ word_at line at → r ≡ (is_missing w || eqb (get_or line w.start 0) 35) → r ≡ is_over line at
+pub over_at_lem : (line : List ℕ) (at : ℕ) {w : Word} {r : Bool} → w ≡ word_at line at → r ≡ (is_missing w || eqb (get_or line w.start 0) 35)
+    → r ≡ is_over line at
 unfolding is_over
 over_at_lem line at e h = rw (← e) h
 

@@ -15,7 +15,8 @@ use Rattle.basics.proofs.Tests.{by_cases, either}
 use Rattle.basics.specs.declared.Refusal.{Refusal}
 use Rattle.basics.specs.declared.Refusal.TheVariants.{TextTooLong, LineTooLong}
 use Rattle.lines.specs.Lines.{LF, with_byte, lines_of, without_cr, is_ended}
-use Rattle.lines.specs.Texts.{text_limit, line_limit, Step, next, stop, column_of, Outcome, accepted, rejected, on_step, run_lines, run_text, outcome_reply, outcome_column, compiled_reply, compiled_column, rejection_of}
+use Rattle.lines.specs.Texts.{text_limit, line_limit, Step, next, stop, column_of, Outcome, accepted, rejected, on_step, run_lines, run_text}
+use Rattle.lines.specs.Texts.{outcome_reply, outcome_column, compiled_reply, compiled_column, rejection_of}
 use Rattle.lines.specs.Internal.{to_lf, LineEnd, step_of}
 use Rattle.lines.specs.declared.LineFault.{LineFault}
 use Rattle.lines.specs.declared.Rejection.{Rejection}
@@ -34,7 +35,8 @@ next_line [] h = absurd (omega arith)
 next_line (b ∷ bs) h = by_cases (eqb b LF) (λ q. rw q) (λ q. rw (q, byte_line_lem b bs, add-one (to_lf bs)))
 
 -- a line ends at e, at its LF or at the end of the text: a loop that goes on at e + 1 reads no line twice
-line_next : (text : List ℕ) (at e : ℕ) → LineEnd text at e → at < length text → lines_of (drop at text) ≡ take (e - at) (drop at text) ∷ lines_of (drop (e + 1) text)
+line_next : (text : List ℕ) (at e : ℕ) → LineEnd text at e → at < length text
+    → lines_of (drop at text) ≡ take (e - at) (drop at text) ∷ lines_of (drop (e + 1) text)
 line_next text at e ends h =
     let some : 0 < length (drop at text) = omega (arith, length-drop at text) in
     let size : to_lf (drop at text) ≡ e - at = omega arith in
@@ -59,17 +61,20 @@ lines_append (b ∷ c ∷ r) e h = rw (lines_append (c ∷ r) e h) (pick_append 
 
 module _ {S : Type 0} (step : S → List ℕ → Step S) where
   -- what each line keeps of a state, all lines keep
-  pub run_keeps : (P : S → Type 0) → ((s : S) (line : List ℕ) (s' : S) → step s line ≡ next s' → P s → P s') → (ls : List (List ℕ)) (n : ℕ) (s : S) {g : S} → run_lines step ls n s ≡ accepted g → P s → P g
+  pub run_keeps : (P : S → Type 0) → ((s : S) (line : List ℕ) (s' : S) → step s line ≡ next s' → P s → P s')
+      → (ls : List (List ℕ)) (n : ℕ) (s : S) {g : S} → run_lines step ls n s ≡ accepted g → P s → P g
   unfolding run_lines
   run_keeps P keeps [] n s {g} e h = let same : s ≡ g = cc in rw same at h
   run_keeps P keeps (l ∷ ls) n s {g} e h = go (λ s'. run_keeps P keeps ls (n + 1) s') (step s (without_cr l)) refl e
     where
-      go : ((s' : S) → run_lines step ls (n + 1) s' ≡ accepted g → P s' → P g) → (a : Step S) → step s (without_cr l) ≡ a → on_step a (without_cr l) n (λ s'. run_lines step ls (n + 1) s') ≡ accepted g → P g
+      go : ((s' : S) → run_lines step ls (n + 1) s' ≡ accepted g → P s' → P g) → (a : Step S) → step s (without_cr l) ≡ a
+          → on_step a (without_cr l) n (λ s'. run_lines step ls (n + 1) s') ≡ accepted g → P g
       go ih (stop r left) q e = absurd (let z : ◌≡◌ {A = ℕ} 0 1 = cc in omega arith)
       go ih (next s') q e = ih s' e (keeps s (without_cr l) s' q h)
 
   -- where the first lines leave a state, the others go on from it
-  pub run_append : (xs ys : List (List ℕ)) (n : ℕ) (s : S) {s' : S} → run_lines step xs n s ≡ accepted s' → run_lines step (xs ++ ys) n s ≡ run_lines step ys (n + length xs) s'
+  pub run_append : (xs ys : List (List ℕ)) (n : ℕ) (s : S) {s' : S} → run_lines step xs n s ≡ accepted s'
+      → run_lines step (xs ++ ys) n s ≡ run_lines step ys (n + length xs) s'
   unfolding run_lines
   run_append [] ys n s e = cc (add-zero n)
   run_append (x ∷ xs) ys n s {s'} e = go (λ s. run_append xs ys (n + 1) s) (step s (without_cr x)) e
@@ -86,6 +91,12 @@ module _ {S : Type 0} (step : S → List ℕ → Step S) where
 abbrev pub outcome_of : {S : Type 0} → Rejection → Outcome S
 outcome_of e = rejected e.refusal e.line e.column
 
+-- what the code answered of a fault
+pub refused_as : {S : Type 0} (whole : Outcome S) (here : List ℕ) (n : ℕ) (fault : LineFault) (e : Rejection)
+    → e ≡ rejection_of fault here n → whole ≡ outcome_of (rejection_of fault here n)
+    → rejected e.refusal e.line e.column ≡ whole
+refused_as whole here n fault e q h = rw (q, h)
+
 -- where a loop over the lines of a text has come to: what the text still gives, from the state s before line n, which begins at `at`
 pub record Reached {S : Type 0} (step : S → List ℕ → Step S) (text : List ℕ) (whole : Outcome S) (at n : ℕ) (s : S) : Type 0 where
   pub within : at ≤ length text + 1
@@ -99,7 +110,8 @@ module _ {S : Type 0} (step : S → List ℕ → Step S) (text : List ℕ) (whol
   lines_read h = here.left ∙ rw (drop_of_length-le text h)
 
   -- the next line ends at e, and o is what was answered of it
-  module _ (e : ℕ) (o : Result S LineFault) (some : at < length text) (ends : LineEnd text at e) (does : step_of o ≡ step s (without_cr (take (e - at) (drop at text)))) where
+  module _ (e : ℕ) (o : Result S LineFault) (some : at < length text) (ends : LineEnd text at e)
+      (does : step_of o ≡ step s (without_cr (take (e - at) (drop at text)))) where
     pub line_refused : (fault : LineFault) → o ≡ Err fault → whole ≡ outcome_of (rejection_of fault (take (e - at) (drop at text)) n)
     unfolding run_lines
     line_refused fault q = here.left ∙ rw (line_next text at e ends some, ← does, q)
@@ -121,7 +133,8 @@ module _ {S : Type 0} (step : S → List ℕ → Step S) (s : S) (text : List �
 -- a call that hands its table back by value: its answer, the column, and the table, by what the text gives
 module _ {S A : Type 0} (count : S → ℕ) (table : Outcome S → A) where
   abbrev pub Ensured : Outcome S → Result ℕ Rejection → A → Type 0
-  Ensured outcome answer handed = (compiled_reply answer ≡ outcome_reply count outcome) × ((compiled_column answer ≡ outcome_column outcome) × (handed ≡ table outcome))
+  Ensured outcome answer handed = (compiled_reply answer ≡ outcome_reply count outcome)
+      × ((compiled_column answer ≡ outcome_column outcome) × (handed ≡ table outcome))
 
   pub text_accepted : (outcome : Outcome S) (s : S) {handed : A} → outcome ≡ accepted s → handed ≡ table (accepted s) → Ensured outcome (Ok (count s)) handed
   text_accepted outcome s q e = rw q (refl, (refl, e))
@@ -150,7 +163,8 @@ module _ {S : Type 0} (P : Refusal → Type 0) where
     lines_refused : (ls : List (List ℕ)) (n : ℕ) (s : S) → RefusedBy (run_lines step ls n s)
     unfolding run_lines
     lines_refused [] n s = tt
-    lines_refused (l ∷ ls) n s = on_stop (step s (without_cr l)) (without_cr l) n (λ s'. run_lines step ls (n + 1) s') (each s (without_cr l)) (λ s'. lines_refused ls (n + 1) s')
+    lines_refused (l ∷ ls) n s =
+        on_stop (step s (without_cr l)) (without_cr l) n (λ s'. run_lines step ls (n + 1) s') (each s (without_cr l)) (λ s'. lines_refused ls (n + 1) s')
 
     pub run_refused : (s : S) (text : List ℕ) → P TextTooLong → RefusedBy (run_text step s text)
     unfolding run_text
@@ -159,7 +173,8 @@ module _ {S : Type 0} (P : Refusal → Type 0) where
 -- ---- columns
 
 -- where a line that is too long is refused at the first byte too many, no column lies beyond that byte
-module _ {S : Type 0} (step : S → List ℕ → Step S) (long : (s : S) (line : List ℕ) → line_limit < length line → step s line ≡ stop LineTooLong (length line - line_limit)) where
+module _ {S : Type 0} (step : S → List ℕ → Step S)
+    (long : (s : S) (line : List ℕ) → line_limit < length line → step s line ≡ stop LineTooLong (length line - line_limit)) where
   line_column : (s : S) (line : List ℕ) (refusal : Refusal) (left : ℕ) → step s line ≡ stop refusal left → column_of line left ≤ line_limit + 1
   line_column s line refusal left e =
       by_cases (ltb line_limit (length line))
@@ -182,4 +197,5 @@ module _ {S : Type 0} (step : S → List ℕ → Step S) (long : (s : S) (line :
 
   pub run_column : (s : S) (text : List ℕ) → outcome_column (run_text step s text) ≤ line_limit + 1
   unfolding run_text
-  run_column s text = either (λ (o : Outcome S). outcome_column o ≤ line_limit + 1) (ltb text_limit (length text)) (omega arith) (lines_column (lines_of text) 1 s)
+  run_column s text =
+      either (λ (o : Outcome S). outcome_column o ≤ line_limit + 1) (ltb text_limit (length text)) (omega arith) (lines_column (lines_of text) 1 s)

@@ -45,7 +45,8 @@ module _ (line : List ℕ) (at n : ℕ) (r : Option ℕ) (h : at ≤ length line
     within = first_within is_blank line at n r is e h;
   }
 
-pub word_found : (line : List ℕ) (at start end : ℕ) → FirstAt false line at start → FirstAt true line start end → NextWord line at (record { start = start; end = end })
+pub word_found : (line : List ℕ) (at start end : ℕ) → FirstAt false line at start → FirstAt true line start end
+    → NextWord line at (record { start = start; end = end })
 unfolding word_at
 word_found line at start end s e = record { is = rw (← s.is, ← e.is); from = s.from; order = e.from; within = e.within }
 

@@ -14,7 +14,8 @@ pub const TEXT_LIMIT: usize = 65536;
 
 const LINE_LIMIT: usize = 1024;
 
-// A word of a line: the position of its first byte and the one after its last; equal where there is no word.
+// A word of a line: the position of its first byte and the one after its last; equal where there is no word. It is no
+// `Option`: the place of a word that is missing, the line's end, is told too.
 #[derive(Clone, Copy)]
 pub struct Word {
     pub start: usize,
@@ -85,7 +86,8 @@ pub fn line_end(text: &[u8], at: usize) -> usize
     at + rest.iter().position(|b| *b == b'\n').unwrap_or(rest.len())
 }
 
-// How many bytes of a line stand before its one CR.
+// How many bytes of a line stand before its one CR. A length: a slice would have to promise that it is the front of
+// the line.
 #[tactic(auto, using(crate::proofs::Lines::trimmed_cases))]
 pub fn trimmed(line: &[u8]) -> usize
     ensures { Trimmed line.now result }
@@ -112,7 +114,8 @@ pub fn is_blank(b: u8) -> bool
     b == b' ' || b == b'\t'
 }
 
-// The next word from `at` on: empty, at the line's end, where there is none.
+// The next word from `at` on: empty, at the line's end, where there is none. A line and a place in it are passed on by
+// themselves: the place is another at each call, so a struct of both would be made anew before each.
 pub fn next_word(line: &[u8], at: usize) -> Word
     requires { at ≤ length line.now }
     ensures { NextWord line.now at result }
@@ -129,7 +132,8 @@ pub fn next_word(line: &[u8], at: usize) -> Word
     Word { start, end }
 }
 
-// Whether two slices hold the same bytes.
+// Whether two slices hold the same bytes. Readers ask it of each word of the language, as the definitions do: a `match`
+// on byte strings would have to be shown equal to each of these anew.
 #[tactic(auto, using(crate::proofs::Words::same_lem))]
 pub fn same_bytes(a: &[u8], b: &[u8]) -> bool
     ensures { result ≡ same_bytes a.now b.now }

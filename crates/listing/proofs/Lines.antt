@@ -56,7 +56,8 @@ module _ (n i : ℕ) (ws : List ℕ) where
 
   -- x is the length of all lines
   module _ (x sum : ℕ) (inv : x ≡ sum + length left) where
-    pub sum_more : {m : Meaning} {k : ℕ} → i < n → 2 * n ≤ length ws → m ≡ meaning_of (get_or ws (2 * i + 1) 0) → k ≡ line_length m → x ≡ sum + k + length (listing (rest n (i + 1) ws))
+    pub sum_more : {m : Meaning} {k : ℕ} → i < n → 2 * n ≤ length ws → m ≡ meaning_of (get_or ws (2 * i + 1) 0) → k ≡ line_length m
+        → x ≡ sum + k + length (listing (rest n (i + 1) ws))
     sum_more {m} h l p q =
         let all = rw (next_line h l p) at inv in
         omega (arith, all, length-append (whole_line (first m)) (listing (rest n (i + 1) ws)), whole_length (first m))
@@ -65,17 +66,20 @@ module _ (n i : ℕ) (ws : List ℕ) where
     sum_all h = let all = rw (no_line h) at inv in omega arith
 
   -- x is the buffer once all lines are put; those that are left have room
-  module _ (x buffer : List ℕ) (at : ℕ) (inv : sets buffer at left ≡ x) (room : at + length left ≤ length buffer) {m : Meaning} (h : i < n) (l : 2 * n ≤ length ws) (e : m ≡ meaning_of (get_or ws (2 * i + 1) 0)) where
+  module _ (x buffer : List ℕ) (at : ℕ) (inv : sets buffer at left ≡ x) (room : at + length left ≤ length buffer) {m : Meaning} (h : i < n)
+      (l : 2 * n ≤ length ws) (e : m ≡ meaning_of (get_or ws (2 * i + 1) 0)) where
     pub next_fits : at + length (whole_line (first m)) ≤ length buffer
     next_fits = fits_first (whole_line (first m)) (listing (rest n (i + 1) ws)) at (length buffer) (rw (next_line h l e) at room)
 
-    pub next_put : {r : ℕ} {new : List ℕ} → Put buffer at (whole_line (first m)) r new → (r + length (listing (rest n (i + 1) ws)) ≤ length new) × (sets new r (listing (rest n (i + 1) ws)) ≡ x)
+    pub next_put : {r : ℕ} {new : List ℕ} → Put buffer at (whole_line (first m)) r new
+        → (r + length (listing (rest n (i + 1) ws)) ≤ length new) × (sets new r (listing (rest n (i + 1) ws)) ≡ x)
     next_put p =
         let line = whole_line (first m) in
         let others = listing (rest n (i + 1) ws) in
         (fits_then line others p (rw (next_line h l e) at room), put_on line others p ∙ rw (next_line h l e) at inv)
 
 -- behind the last line
-pub all_put : (n : ℕ) (ws old : List ℕ) (i : ℕ) (buffer : List ℕ) (at : ℕ) → sets buffer at (listing (rest n i ws)) ≡ sets old 0 (listing (definitions n ws)) → length (listing (definitions n ws)) ≤ length old
+pub all_put : (n : ℕ) (ws old : List ℕ) (i : ℕ) (buffer : List ℕ) (at : ℕ)
+    → sets buffer at (listing (rest n i ws)) ≡ sets old 0 (listing (definitions n ws)) → length (listing (definitions n ws)) ≤ length old
     → n ≤ i → buffer ≡ over (listing (definitions n ws)) old
 all_put n ws old i buffer at inv room h = rw (no_line n i ws h) at inv ∙ put_front (listing (definitions n ws)) old room

@@ -13,7 +13,8 @@ abbrev pub filled_to : {A : Type 0} → (A → ℕ) → List A → ℕ → List 
 filled_to f l i old = map f (take i l) ++ drop i old
 
 module _ {A : Type 0} (f : A → ℕ) (l : List A) (old : List ℕ) (i : ℕ) where
-  pub filled_more : (d : A) {new : List ℕ} {v : ℕ} → i < length l → length l ≤ length old → new ≡ filled_to f l i old → v ≡ f (get_or l i d) → set new i v ≡ filled_to f l (i + 1) old
+  pub filled_more : (d : A) {new : List ℕ} {v : ℕ} → i < length l → length l ≤ length old → new ≡ filled_to f l i old → v ≡ f (get_or l i d)
+      → set new i v ≡ filled_to f l (i + 1) old
   filled_more d h k e p =
       let g : i < length old = omega arith in
       let front : length (map f (take i l)) ≡ i = length-map (take i l) f ∙ length-take-le i l (omega arith) in

@@ -98,6 +98,7 @@ module _ (ws cs cells rules : List ℕ) where
           rw (to-cells, to-rules, all, own) (record { answer = refl; cells = refl; rules = refl })
 
 -- its answer given otherwise: told is what the call answers, and v is how it is given
-pub pages_given : {A : Type 0} (given : Reply (Unit {0}) → A) {plan : Reply (ℕ → Answer)} {cs cells rules new-cells new-rules : List ℕ} {told : Reply (Unit {0})} {v : A}
+pub pages_given : {A : Type 0} (given : Reply (Unit {0}) → A) {plan : Reply (ℕ → Answer)}
+    {cs cells rules new-cells new-rules : List ℕ} {told : Reply (Unit {0})} {v : A}
     → Pages (λ reply. reply) plan cs cells rules told new-cells new-rules → v ≡ given told → Pages given plan cs cells rules v new-cells new-rules
 pages_given given p e = record { answer = e ∙ ap given p.answer; cells = p.cells; rules = p.rules }

@@ -40,7 +40,8 @@ pub lent_links : (ws : List ℕ) (c : ℕ) {r : Reply Answer} → r ≡ lookup_r
 unfolding lookup_reply
 lent_links ws c {r} e = go (lent_table ws) r refl e
   where
-    go : (lent : Reply (List Definition)) (r : Reply Answer) → lent_table ws ≡ lent → r ≡ and_then lent (λ ds. pick (is_scalar c) (answered (lookup (charset_of ws) (table ds) c)) (refused 14 0)) → LentLinks (charset_of ws) lent c r
+    go : (lent : Reply (List Definition)) (r : Reply Answer) → lent_table ws ≡ lent
+        → r ≡ and_then lent (λ ds. pick (is_scalar c) (answered (lookup (charset_of ws) (table ds) c)) (refused 14 0)) → LentLinks (charset_of ws) lent c r
     go (answered ds) (answered a) p e = rw (picked_answer (is_scalar c) (sym e)) at (lookup_followed (charset_of ws) ds (lent_admits ws ds p) c)
     go (answered ds) (refused number place) p e = tt
     go (refused number place) r p e = tt
@@ -50,6 +51,8 @@ pub shown_small : (ws : List ℕ) (c : ℕ) {r : Result Answer Refused} {a : Ans
 unfolding lookup_reply
 shown_small ws c {r} {a} p q = go (lent_table ws) refl (rw (← p, q)) (rw q at (lent_links ws c p))
   where
-    go : (lent : Reply (List Definition)) → lent_table ws ≡ lent → and_then lent (λ ds. pick (is_scalar c) (answered (lookup (charset_of ws) (table ds) c)) (refused 14 0)) ≡ answered a → LentLinks (charset_of ws) lent c (answered a) → a.links ≤ definition_limit
+    go : (lent : Reply (List Definition)) → lent_table ws ≡ lent
+        → and_then lent (λ ds. pick (is_scalar c) (answered (lookup (charset_of ws) (table ds) c)) (refused 14 0)) ≡ answered a
+        → LentLinks (charset_of ws) lent c (answered a) → a.links ≤ definition_limit
     go (answered ds) e h f = omega (arith, f.within, aliases_length ds, admits_limit ds (lent_admits ws ds e))
     go (refused number place) e h f = absurd (let z : ◌≡◌ {A = ℕ} 0 1 = cc in omega arith)

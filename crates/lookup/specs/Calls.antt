@@ -13,9 +13,12 @@ use Rattle.rules.specs.declared.Answer.{Answer}
 
 -- the lookup call
 unfoldable pub lookup_reply : List ℕ → ℕ → Reply Answer
-lookup_reply ws c = and_then (lent_table ws) (λ ds. pick (is_scalar c) (answered (lookup (charset_of ws) (table ds) c)) (refused 14 0))
+lookup_reply ws c =
+    and_then (lent_table ws) (λ ds.
+    pick (is_scalar c) (answered (lookup (charset_of ws) (table ds) c)) (refused 14 0))
 
--- "the links followed", as a lookup answers them: rule 1 follows none; else they are the whole walk of the character as it stands after rule 2
+-- "the links followed", as a lookup answers them: rule 1 follows none; else they are the whole walk of the character as
+-- it stands after rule 2
 pub record Followed (charset : ℕ) (ds : List Definition) (c links : ℕ) : Type 0 where
   pub walked : links ≡ pick (is_braille c) 0 (walk (table ds) (local_of charset c)).links
   pub whole : WholeWalk ds (local_of charset c)
@@ -58,7 +61,9 @@ page_rules (answered look) cs old = over (map (λ (c : ℕ). (look c).rule) cs) 
 page_rules (refused number place) cs old = old
 
 -- what the call is to do by its plan: its answer, given as `given` says, and both buffers
-pub record Pages {A : Type 0} (given : Reply (Unit {0}) → A) (plan : Reply (ℕ → Answer)) (cs old-cells old-rules : List ℕ) (told : A) (new-cells new-rules : List ℕ) : Type 0 where
+pub record Pages {A : Type 0} (given : Reply (Unit {0}) → A) (plan : Reply (ℕ → Answer))
+    (cs old-cells old-rules : List ℕ) (told : A) (new-cells new-rules : List ℕ)
+    : Type 0 where
   pub answer : told ≡ given (page_reply plan)
   pub cells : new-cells ≡ page_cells plan cs old-cells
   pub rules : new-rules ≡ page_rules plan cs old-rules

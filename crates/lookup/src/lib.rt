@@ -37,9 +37,16 @@ pub fn first_no_scalar(characters: &[u32]) -> Option<usize>
 // Fills both buffers, a cell and a rule for each character.
 pub fn fill<T: Finder>(by: &Rules<T>, characters: &[u32], cells: &mut [u8], rules: &mut [u8])
     requires { (length characters.now ≤ length cells.old) × (length characters.now ≤ length rules.old) }
-    ensures cells { cells.new ≡ over (map (λ c. (lookup_by by.now.charset (table (T.definitions by.now.finder)) by.now.last c).cell) characters.now) cells.old }
-    ensures rules { rules.new ≡ over (map (λ c. (lookup_by by.now.charset (table (T.definitions by.now.finder)) by.now.last c).rule) characters.now) rules.old }
+    ensures cells { cells.new ≡ over
+        (map (λ c. (lookup_by by.now.charset (table (T.definitions by.now.finder)) by.now.last c).cell)
+        characters.now)
+        cells.old }
+    ensures rules { rules.new ≡ over
+        (map (λ c. (lookup_by by.now.charset (table (T.definitions by.now.finder)) by.now.last c).rule)
+        characters.now)
+        rules.old }
 {
+    // Three slices side by side: an index is plainer than two zips.
     for i in 0..characters.len() {
         let answer = by.answer_of(characters[i]);
         cells[i] = answer.cell;
@@ -54,7 +61,9 @@ pub fn page(
     cells: &mut [u8],
     rules: &mut [u8],
 ) -> Result<(), Refused>
-    ensures { Pages (λ reply. reply) (page_plan words.now characters.now (length cells.old) (length rules.old)) characters.now cells.old rules.old (reply_of result) cells.new rules.new }
+    ensures { Pages (λ reply. reply)
+        (page_plan words.now characters.now (length cells.old) (length rules.old))
+        characters.now cells.old rules.old (reply_of result) cells.new rules.new }
 {
     if cells.len() < characters.len() || rules.len() < characters.len() {
         return Err(Refusal::ShortSlice.into());

@@ -22,7 +22,8 @@ use Rattle.dots.proofs.Cells.{room}
 use Rattle.operands.specs.Operands.{operand_word, character_at, dots_fault, dots_operand_at, cell_operand_at}
 
 -- a choice by whether there is a value, each way
-some_lem : {A B : Type 0} (P : B → Type 0) (Q : A → Type 0) (m : Option A) {none : B} {some : A → B} → P none → ((a : A) → Q a → P (some a)) → IfSome m Q → P (if_some m none some)
+some_lem : {A B : Type 0} (P : B → Type 0) (Q : A → Type 0) (m : Option A) {none : B} {some : A → B} → P none → ((a : A) → Q a → P (some a))
+    → IfSome m Q → P (if_some m none some)
 some_lem P Q None n s h = n
 some_lem P Q (Some a) n s h = s a h
 
@@ -63,7 +64,8 @@ set_small charset n = go (local_byte charset n) refl
 
 byte_small_of : (charset : ℕ) (w : List ℕ) → Small (byte_of charset w)
 unfolding byte_of
-byte_small_of charset w = some_lem Small (λ c. is_scalar c ≡ true) (character_of w) tt (λ n h. either Small _ (number_small n) (set_small charset n)) (character_in_range w)
+byte_small_of charset w =
+    some_lem Small (λ c. is_scalar c ≡ true) (character_of w) tt (λ n h. either Small _ (number_small n) (set_small charset n)) (character_in_range w)
 
 -- and its character is in range too
 byte_character_in_range : (charset : ℕ) (w : List ℕ) → Passes is_operand (byte_character_of charset w)
@@ -80,7 +82,8 @@ pub value_in_range : (charset : ℕ) (kind : OperandKind) (line : List ℕ) (at 
 unfolding character_at
 value_in_range charset kind line at =
     ok_lem _ (operand_word line at) _
-    (λ w. some_lem OperandInRange (λ c. is_operand c ≡ true) (word_value kind charset (bytes_of line w)) tt (λ c h. h) (word_in_range charset kind (bytes_of line w)))
+    (λ w. some_lem OperandInRange (λ c. is_operand c ≡ true) (word_value kind charset (bytes_of line w)) tt (λ c h. h)
+    (word_in_range charset kind (bytes_of line w)))
 
 -- ---- dots: each answer is a cell
 

@@ -83,7 +83,7 @@ pub fn dots_operand_at(line: &[u8], at: usize) -> Result<Parsed<u8>, LineFault>
     })
 }
 
-// What begins at the next word from `at` on as a cell operand.
+// What begins at the next word from `at` on as a cell operand: as `dots_operand_at`, by another reader.
 #[tactic(auto, unfolding(crate::specs::Operands::cell_operand_at))]
 pub fn cell_operand_at(line: &[u8], at: usize) -> Result<Parsed<u8>, LineFault>
     requires { at ≤ length line.now }

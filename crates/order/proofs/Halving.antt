@@ -75,7 +75,8 @@ module _ (at : ℕ → ℕ) (c n : ℕ) (up : (i j : ℕ) → i ≤ j → j < n 
       by_test (λ (h : Halved). Tells at c n h.place) (ltb (at mid) c)
       (λ l.
       let less = ltb-true (at mid) c l in
-      halved_tells budget (mid + 1) (left - (half + 1)) (omega arith) (omega arith) (λ i p. omega (arith, up i mid (omega arith) (omega arith))) (λ i p. behind i (omega arith)))
+      halved_tells budget (mid + 1) (left - (half + 1)) (omega arith) (omega arith) (λ i p. omega (arith, up i mid (omega arith) (omega arith)))
+      (λ i p. behind i (omega arith)))
       (λ l.
       let more = ltb-false (at mid) c l in
       halved_tells budget low half (omega arith) (omega arith) before (λ i p q. omega (arith, up mid i (omega arith) q)))))

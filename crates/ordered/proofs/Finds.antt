@@ -28,7 +28,8 @@ module _ (n : ℕ) (ws : List ℕ) (fits : 2 * n ≤ length ws) (c : ℕ) where
       rw (rest_more n i ws (omega arith) fits, ne_eqb (character ws i) c (away i (omega arith))) (passed m (i + 1) j (omega arith) l away)
 
   -- and comes to the one that has c
-  find_first : (k : ℕ) → k < n → character ws k ≡ c → ((j : ℕ) → j < k → character ws j ≡ c → ⊥) → find (definitions n ws) c ≡ Some (meaning_of (get_or ws (2 * k + 1) 0))
+  find_first : (k : ℕ) → k < n → character ws k ≡ c → ((j : ℕ) → j < k → character ws j ≡ c → ⊥)
+      → find (definitions n ws) c ≡ Some (meaning_of (get_or ws (2 * k + 1) 0))
   unfolding find
   find_first k h e before =
       rw (← rest_all n ws) (passed k 0 k (omega arith) (omega arith) before ∙ rw (rest_more n k ws h fits, eq-eqb (character ws k) c e))
@@ -66,10 +67,12 @@ module _ (ws : List ℕ) (n : ℕ) (os : List ℕ) (o : Ordered ws n os) (c : �
 
     -- of the first `limit` pairs
     module _ (limit : ℕ) (within : limit ≤ n) where
-      pub found_pair : {m : Meaning} → get_or os place 0 < limit → m ≡ meaning_of (get_or ws (2 * get_or os place 0 + 1) 0) → Some m ≡ find (definitions limit ws) c
+      pub found_pair : {m : Meaning} → get_or os place 0 < limit → m ≡ meaning_of (get_or ws (2 * get_or os place 0 + 1) 0)
+          → Some m ≡ find (definitions limit ws) c
       found_pair l p =
           let hit = pair_hit ws n os o c h is place e in
-          sym (find_first limit ws (omega (arith, o.fits)) c (get_or os place 0) l hit.1 (λ j b. pair_alone ws n os o c h is place e j (omega arith) (λ w. omega arith)) ∙ rw p)
+          sym (find_first limit ws (omega (arith, o.fits)) c (get_or os place 0) l hit.1
+          (λ j b. pair_alone ws n os o c h is place e j (omega arith) (λ w. omega arith)) ∙ rw p)
 
       pub found_later : limit ≤ get_or os place 0 → None ≡ find (definitions limit ws) c
       found_later l = sym (find_nowhere limit ws (omega (arith, o.fits)) c (λ j b. pair_alone ws n os o c h is place e j (omega arith) (λ w. omega arith)))
@@ -80,7 +83,8 @@ module _ (ws : List ℕ) (n : ℕ) (os : List ℕ) (o : Ordered ws n os) (c : �
 -- ---- marks
 
 -- a slot of no mark has no pair; s is what a call answered of the slot of c
-module _ (ws : List ℕ) (n : ℕ) (marks : List ℕ) (fits : 2 * n ≤ length ws) (marked : Marks ws n marks) (c s limit : ℕ) (is : s ≡ slot_of c) (within : limit ≤ n) where
+module _ (ws : List ℕ) (n : ℕ) (marks : List ℕ) (fits : 2 * n ≤ length ws) (marked : Marks ws n marks) (c s limit : ℕ) (is : s ≡ slot_of c)
+    (within : limit ≤ n) where
   pub mark_missing : get_or marks s 0 ≡ 0 → None ≡ find (definitions limit ws) c
   mark_missing e =
       sym (find_nowhere limit ws (omega (arith, fits)) c
@@ -95,7 +99,8 @@ counted n limit ws fits within = sym (definitions_length limit ws (omega arith))
 pub none_marked : (ws marks : List ℕ) → length marks ≡ slots → Marks ws 0 marks
 none_marked ws marks size = record { size = size; marked = λ j l. absurd (omega arith) }
 
-pub one_marked : (ws : List ℕ) (k : ℕ) (marks : List ℕ) (s : ℕ) → Marks ws k marks → s ≡ slot_of (get_or ws (2 * k) 0) → s < slots → Marks ws (k + 1) (set marks s 1)
+pub one_marked : (ws : List ℕ) (k : ℕ) (marks : List ℕ) (s : ℕ) → Marks ws k marks → s ≡ slot_of (get_or ws (2 * k) 0) → s < slots
+    → Marks ws (k + 1) (set marks s 1)
 one_marked ws k marks s before is h = record {
   size = length-set marks s 1 ∙ before.size;
   marked = λ j l.
@@ -104,7 +109,9 @@ one_marked ws k marks s before is h = record {
       (λ t. rw (eqb-true at s t) (get_or-set_same marks s 1 0 (omega (arith, before.size))))
       (λ t.
       let other = eqb-false at s t in
-      let earlier = by_cases (eqb j k) (λ u. absurd (other (ap (λ (i : ℕ). slot_of (get_or ws (2 * i) 0)) (eqb-true j k u) ∙ sym is))) (λ u. omega (arith, eqb-false j k u)) in
+      let earlier =
+      by_cases (eqb j k) (λ u. absurd (other (ap (λ (i : ℕ). slot_of (get_or ws (2 * i) 0)) (eqb-true j k u) ∙ sym is)))
+      (λ u. omega (arith, eqb-false j k u)) in
       get_or-set_other marks s at 1 0 other ∙ before.marked j earlier);
 }
 

@@ -85,7 +85,8 @@ fn count_pairs(words: &[u32]) -> usize
     DEFINITION_LIMIT
 }
 
-// The check of the pairs, those before the first zero pair in order, so that no two of them have the same character.
+// The check of the pairs, those before the first zero pair in order, so that no two of them have the same character. It
+// stands beside `table::check_words`, whose form the papers name, and which scans.
 fn check_pairs(all: &Marked<'_, '_>) -> Result<usize, usize>
     requires size { length all.now.in_order.words.now ≡ pair_words }
     requires few { all.now.in_order.count ≤ definition_limit }

@@ -22,7 +22,8 @@ definitions_length (suc n) (c ∷ []) h = absurd (omega arith)
 definitions_length (suc n) (c ∷ w ∷ ws) h = ap suc (definitions_length n ws (omega arith))
 
 -- a pair behind n pairs is one definition more, whatever else follows
-pub definitions_two : (n : ℕ) (xs us ws : List ℕ) (a b : ℕ) → length xs ≡ 2 * n → definitions (n + 1) (xs ++ a ∷ b ∷ ws) ≡ definitions n (xs ++ us) ++ definition_of a b ∷ []
+pub definitions_two : (n : ℕ) (xs us ws : List ℕ) (a b : ℕ) → length xs ≡ 2 * n
+    → definitions (n + 1) (xs ++ a ∷ b ∷ ws) ≡ definitions n (xs ++ us) ++ definition_of a b ∷ []
 unfolding definitions
 definitions_two zero [] us ws a b h = refl
 definitions_two zero (c ∷ xs) us ws a b h = absurd (omega arith)
@@ -32,10 +33,12 @@ definitions_two (suc n) (c ∷ w ∷ xs) us ws a b h =
     let e : suc n + 1 ≡ suc (n + 1) = omega arith in
     rw e (ap (λ (l : List Definition). definition_of c w ∷ l) (definitions_two n xs us ws a b (omega arith)))
 
-pub definitions_more : (n : ℕ) (ws : List ℕ) → 2 * n + 1 < length ws → definitions (n + 1) ws ≡ definitions n ws ++ definition_of (get_or ws (2 * n) 0) (get_or ws (2 * n + 1) 0) ∷ []
+pub definitions_more : (n : ℕ) (ws : List ℕ) → 2 * n + 1 < length ws
+    → definitions (n + 1) ws ≡ definitions n ws ++ definition_of (get_or ws (2 * n) 0) (get_or ws (2 * n + 1) 0) ∷ []
 definitions_more n ws h =
     rw (← two_more ws (2 * n) h, take-append-drop) at
-    (definitions_two n (take (2 * n) ws) (drop (2 * n) ws) (drop (2 * n + 2) ws) (get_or ws (2 * n) 0) (get_or ws (2 * n + 1) 0) (length-take-le (2 * n) ws (omega arith)))
+    (definitions_two n (take (2 * n) ws) (drop (2 * n) ws) (drop (2 * n + 2) ws) (get_or ws (2 * n) 0) (get_or ws (2 * n + 1) 0)
+    (length-take-le (2 * n) ws (omega arith)))
 
 -- the definitions of the pairs i to n
 abbrev pub rest : ℕ → ℕ → List ℕ → List Definition
@@ -48,7 +51,8 @@ pub rest_none : (n i : ℕ) (ws : List ℕ) → n ≤ i → rest n i ws ≡ []
 unfolding definitions
 rest_none n i ws h = let a : n - i ≡ 0 = omega arith in rw a
 
-pub rest_more : (n i : ℕ) (ws : List ℕ) → i < n → 2 * n ≤ length ws → rest n i ws ≡ definition_of (get_or ws (2 * i) 0) (get_or ws (2 * i + 1) 0) ∷ rest n (i + 1) ws
+pub rest_more : (n i : ℕ) (ws : List ℕ) → i < n → 2 * n ≤ length ws
+    → rest n i ws ≡ definition_of (get_or ws (2 * i) 0) (get_or ws (2 * i + 1) 0) ∷ rest n (i + 1) ws
 unfolding definitions
 rest_more n i ws h l =
     let a : n - i ≡ suc (n - (i + 1)) = omega arith in

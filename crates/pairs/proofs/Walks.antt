@@ -29,20 +29,24 @@ unfolding walk
 walk_first ds c = let p : length ds - 0 ≡ length ds = omega arith in rw p (at_links _ (omega arith))
 
 module _ (ds : List Definition) (c n k e : ℕ) (inv : walk (table ds) c ≡ after k (walk_within (alias_of (table ds)) (n - k) e)) where
-  pub walk_on : {f : Option Meaning} {t : Option ℕ} (target : ℕ) {m : ℕ} → m ≡ n → k < m → f ≡ found_in ds e → t ≡ target_of f → t ≡ Some target → walk (table ds) c ≡ after (k + 1) (walk_within (alias_of (table ds)) (n - (k + 1)) target)
+  pub walk_on : {f : Option Meaning} {t : Option ℕ} (target : ℕ) {m : ℕ} → m ≡ n → k < m → f ≡ found_in ds e → t ≡ target_of f → t ≡ Some target
+      → walk (table ds) c ≡ after (k + 1) (walk_within (alias_of (table ds)) (n - (k + 1)) target)
   unfolding alias_of walk_within
   walk_on target count h found of is =
       let p : n - k ≡ suc (n - (k + 1)) = omega arith in
       inv ∙ rw (p, ← found, told of is) (at_links _ (omega arith))
 
   -- what the loop answers where the walk goes no further
-  walk_here : {v : Option ℕ} → walk_within (alias_of (table ds)) (n - k) e ≡ record { end = e; links = 0 } → v ≡ explicit (table ds) e → record { end = e; links = k; cell = v } ≡ walk_with_cell (table ds) c
+  walk_here : {v : Option ℕ} → walk_within (alias_of (table ds)) (n - k) e ≡ record { end = e; links = 0 } → v ≡ explicit (table ds) e
+      → record { end = e; links = k; cell = v } ≡ walk_with_cell (table ds) c
   walk_here here cell = let p : walk (table ds) c ≡ record { end = e; links = k } = inv ∙ rw here (at_links _ (omega arith)) in rw (p, cell)
 
-  pub walk_ends : {f : Option Meaning} {t : Option ℕ} {v : Option ℕ} → f ≡ found_in ds e → t ≡ target_of f → t ≡ None → v ≡ cell_of f → record { end = e; links = k; cell = v } ≡ walk_with_cell (table ds) c
+  pub walk_ends : {f : Option Meaning} {t : Option ℕ} {v : Option ℕ} → f ≡ found_in ds e → t ≡ target_of f → t ≡ None → v ≡ cell_of f
+      → record { end = e; links = k; cell = v } ≡ walk_with_cell (table ds) c
   unfolding alias_of explicit
   walk_ends found of is cell = walk_here (walk_end_lem (alias_of (table ds)) (n - k) e (rw (← found) (told of is))) (rw (← found) cell)
 
-  pub walk_cut : {f : Option Meaning} {v : Option ℕ} {m : ℕ} → m ≡ n → m ≤ k → f ≡ found_in ds e → v ≡ cell_of f → record { end = e; links = k; cell = v } ≡ walk_with_cell (table ds) c
+  pub walk_cut : {f : Option Meaning} {v : Option ℕ} {m : ℕ} → m ≡ n → m ≤ k → f ≡ found_in ds e → v ≡ cell_of f
+      → record { end = e; links = k; cell = v } ≡ walk_with_cell (table ds) c
   unfolding walk_within explicit
   walk_cut count h found cell = let p : n - k ≡ 0 = omega arith in walk_here (rw p) (rw (← found) cell)

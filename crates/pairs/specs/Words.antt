@@ -1,5 +1,6 @@
 -- The words of a compiled table, the definitions that they say, and the local character set that it is for.
-use Rattle.std.specs.Prelude.{ℕ, zero, suc, ◌+◌, ◌*◌, ◌-◌, ◌/◌, ◌%◌, Bool, false, List, [], ◌∷◌, ◌++◌, length, get_or, replicate, eqb, leb}
+use Rattle.std.specs.Prelude.{ℕ, zero, suc, ◌+◌, ◌*◌, ◌-◌, ◌/◌, ◌%◌, Bool, false, eqb, leb}
+use Rattle.std.specs.Prelude.{List, [], ◌∷◌, ◌++◌, length, get_or, replicate}
 use Rattle.basics.specs.Choice.{pick}
 use Rattle.scalars.specs.Characters.{is_operand}
 use Rattle.definitions.specs.declared.Meaning.{Meaning}

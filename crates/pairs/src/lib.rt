@@ -1,5 +1,5 @@
-// The pairs of words that are definitions; and, however a character is found among definitions, its alias walk and what refuses
-// a definition.
+// The pairs of words that are definitions; and, however a character is found among definitions, its alias walk and what
+// refuses a definition.
 #![tactic(auto)]
 
 ghost use Rattle.std.specs.Prelude.{◌≡◌, List, ◌*◌, ◌≤◌, length};
@@ -36,7 +36,8 @@ pub trait Finder {
         ensures { result ≡ length (definitions self.now) };
 }
 
-// The pairs of some words that count as definitions.
+// The pairs of some words that count as definitions. The words are as callers lend them, two a definition: rows of two
+// would be cut anew wherever words are read.
 #[derive(Clone, Copy)]
 pub struct Pairs<'a> {
     pub words: &'a [u32],
@@ -98,6 +99,7 @@ pub fn walk_from<T: Finder>(finder: &T, character: u32) -> Walked
 {
     let mut end = character;
     let mut links = 0;
+    // A `for` over the links would ask for the last character once more behind it.
     loop {
         let found = found_in(finder, end);
         if links < finder.count() {

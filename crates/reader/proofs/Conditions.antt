@@ -33,7 +33,8 @@ later_rule two a h =
     rw (p, ne_eqb a.rule 3 (λ q. omega arith), ne_eqb a.rule 4 (λ q. omega arith))
 
 -- the cells of rules 3 and 4 are the one of the walk's end, under 3 if the walk has no link, and another that is absent
-glyph_rule : (two none : Bool) (end : Option ℕ) (a b c d : Option ℕ) (links : ℕ) → is_glyph_rule ((choose 3 (pick none end None ∷ pick none None end ∷ a ∷ b ∷ c ∷ d ∷ []) links).rule + pick two 16 0) ≡ is_some end
+glyph_rule : (two none : Bool) (end : Option ℕ) (a b c d : Option ℕ) (links : ℕ)
+    → is_glyph_rule ((choose 3 (pick none end None ∷ pick none None end ∷ a ∷ b ∷ c ∷ d ∷ []) links).rule + pick two 16 0) ≡ is_some end
 unfolding choose
 glyph_rule true true (Some dots) a b c d links = refl
 glyph_rule true false (Some dots) a b c d links = refl

@@ -31,7 +31,9 @@ use Rattle.definitions.specs.declared.Definition.{Definition}
 use Rattle.definitions.specs.declared.Meaning.TheVariants.{Alias}
 use Rattle.reader.specs.Conditions.{has_glyph, has_cell}
 use Rattle.table.proofs.Readback.{InRange, is_number_in_range}
-use Rattle.reader.specs.Reader.{directive_of, finished, define, dots_meaning, dots_line, alias_line, condition_at, glyph_condition, cell_condition, has_room, after_directive, front_of, without_effect, if_holds, on_front, read_from, block_line, read_first, read_line}
+use Rattle.reader.specs.Reader.{directive_of, finished, define, dots_meaning, dots_line, alias_line, condition_at, glyph_condition, cell_condition}
+use Rattle.reader.specs.Reader.{has_room, after_directive, front_of, without_effect, if_holds, on_front, read_from, block_line, read_first}
+use Rattle.reader.specs.Reader.{read_line}
 use Rattle.reader.specs.declared.Directive.{Directive}
 use Rattle.reader.specs.declared.Directive.TheVariants as D
 use Rattle.reader.specs.declared.Reading.{Reading}
@@ -64,7 +66,8 @@ fault_each : {A : Type 0} (P : A → Type 0) (fault : LineFault) → Each P (Err
 fault_each P fault = record { value = tt }
 
 -- what holds of each value holds of what follows from it
-then : {A B : Type 0} (P : A → Type 0) (Q : B → Type 0) (r : Result A LineFault) (more : A → Result B LineFault) → IfOk r P → ((a : A) → P a → Each Q (more a)) → Each Q (if_ok r more)
+then : {A B : Type 0} (P : A → Type 0) (Q : B → Type 0) (r : Result A LineFault) (more : A → Result B LineFault) → IfOk r P
+    → ((a : A) → P a → Each Q (more a)) → Each Q (if_ok r more)
 then P Q (Ok a) more h k = k a h
 then P Q (Err fault) more h k = record { value = tt }
 
@@ -107,7 +110,8 @@ module _ (charset room : ℕ) where
   dots_line_lem kind typed line at left =
       then Standing (ReadingInRange room) (character_at charset kind line at) _ (value_in_range charset kind line at)
       (λ c h. then Small (ReadingInRange room) (dots_operand_at line c.after) _ (dots_in_range line c.after)
-      (λ dots l. each_finished (ReadingInRange room) line dots.after (define c.value (dots_meaning typed dots.value) left) (record { character = h; number = meaning_in_range typed dots.value l })))
+      (λ dots l. each_finished (ReadingInRange room) line dots.after (define c.value (dots_meaning typed dots.value) left)
+      (record { character = h; number = meaning_in_range typed dots.value l })))
 
   alias_line_lem : (line : List ℕ) (at left : ℕ) → Each (ReadingInRange room) (alias_line charset line at left)
   unfolding alias_line
@@ -144,7 +148,8 @@ module _ (charset room : ℕ) where
       some e = let n = eqb-false room 0 e in omega arith
 
       roomy : (left : ℕ) (r : Result Front LineFault) → (0 < room → Each (FrontInRange room) r) → Each (FrontInRange room) (if_ok (has_room room left) (λ u. r))
-      roomy left r h = by_test (λ (u : Result (Unit {0}) LineFault). Each (FrontInRange room) (if_ok u (λ v. r))) (eqb room 0) (λ e. record { value = tt }) (λ e. h (some e))
+      roomy left r h =
+          by_test (λ (u : Result (Unit {0}) LineFault). Each (FrontInRange room) (if_ok u (λ v. r))) (eqb room 0) (λ e. record { value = tt }) (λ e. h (some e))
 
       whole : (r : Result Reading LineFault) → Each (ReadingInRange room) r → Each (FrontInRange room) (if_ok r (λ reading. Ok (Whole reading)))
       whole r h = then (ReadingInRange room) (FrontInRange room) r _ h.value (λ reading k. record { value = k })
@@ -155,7 +160,9 @@ module _ (charset room : ℕ) where
       known (D.IfGlyph wanted) at left = roomy left _ (λ h. glyph_front h line ds wanted at)
       known (D.IfCell wanted) at left = roomy left _ (λ h. cell_front h line ds wanted at)
 
-      go : (directive : Option Directive) (at left : ℕ) → Each (FrontInRange room) (if_some directive (Err (record { refusal = UnknownDirective; left = left })) (λ d. after_directive charset ds room line d at left))
+      go : (directive : Option Directive) (at left : ℕ)
+          → Each (FrontInRange room)
+          (if_some directive (Err (record { refusal = UnknownDirective; left = left })) (λ d. after_directive charset ds room line d at left))
       go None at left = record { value = tt }
       go (Some directive) at left = known directive at left
 
@@ -187,7 +194,8 @@ module _ (room : ℕ) where
 from_in_range : (charset : ℕ) (ds : List Definition) (room : ℕ) (line : List ℕ) → Each (ReadingInRange room) (read_from charset ds room line)
 unfolding read_from
 from_in_range charset ds zero line =
-    then (FrontInRange zero) (ReadingInRange zero) (front_of charset ds zero line) _ (front_in_range charset zero ds line).value (on_front_lem zero (λ holds rest. Ok NoEffect) (λ holds rest. record { value = tt }))
+    then (FrontInRange zero) (ReadingInRange zero) (front_of charset ds zero line) _ (front_in_range charset zero ds line).value
+    (on_front_lem zero (λ holds rest. Ok NoEffect) (λ holds rest. record { value = tt }))
 from_in_range charset ds (suc room) line =
     then (FrontInRange (suc room)) (ReadingInRange (suc room)) (front_of charset ds (suc room) line) _ (front_in_range charset (suc room) ds line).value
     (on_front_lem (suc room) _ (λ holds rest.
@@ -213,7 +221,8 @@ module _ (charset : ℕ) (ds : List Definition) (around : Around) (line : List �
   read_in_range : Each (ReadingInRange around.room) (read_line charset ds around line)
   read_in_range =
       each_line (ReadingInRange around.room) line charset ds around tt tt tt
-      (then (ReadingInRange around.room) (ReadingInRange around.room) (read_from charset ds around.room line) _ (from_in_range charset ds around.room line).value (λ reading h. record { value = holds_in_range around.room around.taken reading h }))
+      (then (ReadingInRange around.room) (ReadingInRange around.room) (read_from charset ds around.room line) _
+      (from_in_range charset ds around.room line).value (λ reading h. record { value = holds_in_range around.room around.taken reading h }))
 
   -- the definition that a line gives is in range
   pub line_in_range : {d : Definition} {left : ℕ} → read_line charset ds around line ≡ Ok (Define d left) → InRange d
@@ -224,12 +233,14 @@ module _ (charset : ℕ) (ds : List Definition) (around : Around) (line : List �
   line_had_room e = rw e at read_in_range.value
 
   -- and, where the line is not taken, no half that is
-  pub line_no_half : {first second : Bool} → around.taken ≡ false → read_line charset ds around line ≡ Ok (Block (Open first second)) → (first ≡ false) × (second ≡ false)
+  pub line_no_half : {first second : Bool} → around.taken ≡ false → read_line charset ds around line ≡ Ok (Block (Open first second))
+      → (first ≡ false) × (second ≡ false)
   unfolding if_holds
   line_no_half untaken e =
       rw e at
       (each_line NoHalf line charset ds around tt tt tt
-      (then (λ r. Unit) NoHalf (read_from charset ds around.room line) _ (any (read_from charset ds around.room line)) (λ reading h. record { value = rw untaken (without_half reading) }))).value
+      (then (λ r. Unit) NoHalf (read_from charset ds around.room line) _ (any (read_from charset ds around.room line))
+      (λ reading h. record { value = rw untaken (without_half reading) }))).value
     where
       any : (r : Result Reading LineFault) → IfOk r (λ q. Unit)
       any (Ok q) = tt

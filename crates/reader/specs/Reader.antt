@@ -1,6 +1,7 @@
--- Reading a line: 3, 4, then faults 5 to 10 and 17 as met from left to right. The conditions are judged with the definitions of the lines before;
--- operands and rule 2 go by the local character set.
-use Rattle.std.specs.Prelude.{ℕ, zero, suc, ◌-◌, Bool, true, false, not, List, length, drop, eqb, Option, None, Some, Result, Ok}
+-- Reading a line: 3, 4, then faults 5 to 10 and 17 as met from left to right. The conditions are judged with the
+-- definitions of the lines before; operands and rule 2 go by the local character set.
+use Rattle.std.specs.Prelude.{ℕ, zero, suc, ◌-◌, Bool, true, false, not, List, length, drop, eqb}
+use Rattle.std.specs.Prelude.{Option, None, Some, Result, Ok}
 use Rattle.std.specs.Bool.{beq}
 use Rattle.basics.specs.Ascii.{ascii}
 use Rattle.basics.specs.Choice.{pick, if_some, if_ok}
@@ -68,15 +69,17 @@ alias_line charset line at left =
     if_ok (character_at charset Character line character.after) (λ target.
     finished line target.after (define character.value (M.Alias target.value) left)))
 
--- behind a condition's operand: a further directive; where it is absent or begins with `#`, a block opens, its first half taken if
--- the condition holds, its second if it fails
+-- behind a condition's operand: a further directive; where it is absent or begins with `#`, a block opens, its first
+-- half taken if the condition holds, its second if it fails
 unfoldable pub condition_at : List ℕ → ℕ → Bool → Front
-condition_at line after holds = pick (is_over line after) (Whole (Block (Open holds (not holds)))) (Condition holds after)
+condition_at line after holds =
+    pick (is_over line after) (Whole (Block (Open holds (not holds)))) (Condition holds after)
 
 -- a condition's operand: the condition holds where its test comes out as wanted
 unfoldable pub glyph_condition : ℕ → List Definition → Bool → List ℕ → ℕ → Result Front LineFault
 glyph_condition charset ds wanted line at =
-    if_ok (character_at charset Character line at) (λ character. Ok (condition_at line character.after (beq (has_glyph charset ds character.value) wanted)))
+    if_ok (character_at charset Character line at) (λ character.
+    Ok (condition_at line character.after (beq (has_glyph charset ds character.value) wanted)))
 
 unfoldable pub cell_condition : List Definition → Bool → List ℕ → ℕ → Result Front LineFault
 cell_condition ds wanted line at =
@@ -88,10 +91,14 @@ has_room room left = pick (eqb room 0) (fault TooManyConditions left) (Ok tt)
 
 -- what stands behind a directive word; the word itself begins `left` bytes before the line's end
 abbrev pub after_directive : ℕ → List Definition → ℕ → List ℕ → Directive → ℕ → ℕ → Result Front LineFault
-after_directive charset ds room line (D.ByDots kind typed) at left = if_ok (dots_line charset kind typed line at left) (λ reading. Ok (Whole reading))
-after_directive charset ds room line D.ByAlias at left = if_ok (alias_line charset line at left) (λ reading. Ok (Whole reading))
-after_directive charset ds room line (D.IfGlyph wanted) at left = if_ok (has_room room left) (λ u. glyph_condition charset ds wanted line at)
-after_directive charset ds room line (D.IfCell wanted) at left = if_ok (has_room room left) (λ u. cell_condition ds wanted line at)
+after_directive charset ds room line (D.ByDots kind typed) at left =
+    if_ok (dots_line charset kind typed line at left) (λ reading. Ok (Whole reading))
+after_directive charset ds room line D.ByAlias at left =
+    if_ok (alias_line charset line at left) (λ reading. Ok (Whole reading))
+after_directive charset ds room line (D.IfGlyph wanted) at left =
+    if_ok (has_room room left) (λ u. glyph_condition charset ds wanted line at)
+after_directive charset ds room line (D.IfCell wanted) at left =
+    if_ok (has_room room left) (λ u. cell_condition ds wanted line at)
 
 -- the directive at the front, with room for so many conditions
 unfoldable pub front_of : ℕ → List Definition → ℕ → List ℕ → Result Front LineFault
@@ -100,8 +107,8 @@ front_of charset ds room line =
     if_some (directive_of (bytes_of line w)) (fault UnknownDirective (length line - w.start))
     (λ directive. after_directive charset ds room line directive w.end (length line - w.start))
 
--- behind a failed condition, or inside lines not taken: the whole line must be well formed, nothing is defined, and of a block that opens neither
--- half is taken
+-- behind a failed condition, or inside lines not taken: the whole line must be well formed, nothing is defined, and of
+-- a block that opens neither half is taken
 abbrev pub without_effect : Reading → Reading
 without_effect NoEffect = NoEffect
 without_effect (Define definition left) = NoEffect
@@ -117,7 +124,8 @@ on_front (Condition holds rest) more = more holds rest
 -- a directive with room for so many conditions: what follows a condition is read with room for one less.
 -- Without room no front is a condition
 unfoldable pub read_from : ℕ → List Definition → ℕ → List ℕ → Result Reading LineFault
-read_from charset ds zero line = if_ok (front_of charset ds zero line) (λ front. on_front front (λ holds rest. Ok NoEffect))
+read_from charset ds zero line =
+    if_ok (front_of charset ds zero line) (λ front. on_front front (λ holds rest. Ok NoEffect))
 read_from charset ds (suc room) line =
     if_ok (front_of charset ds (suc room) line) (λ front. on_front front (λ holds rest.
     if_ok (read_from charset ds room (drop rest line)) (λ reading. Ok (if_holds holds reading))))

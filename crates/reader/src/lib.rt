@@ -1,12 +1,15 @@
-// Reading a line of a text table: directives, conditions, operands. The pairs are the definitions of the lines before, and their
-// words say the local character set.
+// Reading a line of a text table: directives, conditions, operands. The pairs are the definitions of the lines before,
+// and their words say the local character set.
 #![tactic(auto)]
 
 ghost use Rattle.std.specs.Prelude.{◌≡◌, ◌≤◌, length, Ok};
 ghost use Rattle.lines.specs.Internal.{NextWord};
-ghost use Rattle.pairs.specs.Words.{charset_of, definitions};
+ghost use Rattle.pairs.specs.Words.{charset_of};
+ghost use Rattle.table.specs.Internal.{known};
 ghost use Rattle.reader.specs.Conditions.{has_glyph, has_cell};
-ghost use Rattle.reader.specs.Reader.{condition_of, directive_of, finished, dots_meaning, dots_line, alias_line, condition_at, glyph_condition, cell_condition, after_directive, front_of, has_room, if_holds, read_from, block_line, read_first, read_line};
+ghost use Rattle.reader.specs.Reader.{condition_of, directive_of, finished, dots_meaning, dots_line, alias_line};
+ghost use Rattle.reader.specs.Reader.{condition_at, glyph_condition, cell_condition, has_room, after_directive};
+ghost use Rattle.reader.specs.Reader.{front_of, if_holds, read_from, block_line, read_first, read_line};
 ghost use Rattle.reader.specs.Internal.{FrontWithin};
 
 use basics::Refusal;
@@ -17,7 +20,8 @@ use lines::{LineFault, Opening, Word};
 use pairs::Pairs;
 
 // What a directive word asks for: a definition by dots, of a byte or a character, typed or shown only; an alias; or a
-// condition, which holds where its test comes out as wanted.
+// condition, which holds where its test comes out as wanted. `typed` and `wanted` are values of the word: the one says
+// which meaning is defined, the other is compared. They pick no step.
 #[derive(Clone, Copy)]
 pub enum Directive {
     ByDots { kind: OperandKind, typed: bool },
@@ -26,8 +30,8 @@ pub enum Directive {
     IfCell { wanted: bool },
 }
 
-// A line as read, without a fault: without effect, a definition that is to take effect, with the number of bytes from its
-// directive word to the line's end, or a line that opens, turns or closes a block.
+// A line as read, without a fault: without effect, a definition that is to take effect, with the number of bytes from
+// its directive word to the line's end, or a line that opens, turns or closes a block.
 #[derive(Clone, Copy)]
 pub enum Reading {
     NoEffect,
@@ -35,8 +39,8 @@ pub enum Reading {
     Block(BlockLine),
 }
 
-// A directive at the front of what is left of a line: read whole, or a condition, whether it holds and where the further
-// directive begins.
+// A directive at the front of what is left of a line: read whole, or a condition, whether it holds and where the
+// further directive begins. Neither is a fault, so this is no `Result`.
 #[derive(Clone, Copy)]
 pub enum Front {
     Whole(Reading),
@@ -54,7 +58,7 @@ impl Context<'_> {
     // Whether `ifGlyph` holds: the end of the alias walk has a cell exactly where rule 3 or 4 answers.
     #[tactic(auto, using(crate::proofs::Conditions::glyph_never, crate::proofs::Conditions::glyph_end))]
     fn has_glyph(&self, c: u32) -> bool
-        ensures { result ≡ has_glyph self.now.charset (definitions self.now.pairs.count self.now.pairs.words.now) c }
+        ensures { result ≡ has_glyph self.now.charset (known self.now.pairs) c }
     {
         if scalars::is_braille(c) {
             return false;
@@ -65,7 +69,7 @@ impl Context<'_> {
 
     // Whether `ifCell` holds.
     fn has_cell(&self, cell: u8) -> bool
-        ensures { result ≡ has_cell (definitions self.now.pairs.count self.now.pairs.words.now) cell }
+        ensures { result ≡ has_cell (known self.now.pairs) cell }
     {
         for i in 0..self.pairs.count {
             if definitions::types_cell(pairs::meaning_of(self.pairs.words[2 * i + 1]), cell) {
@@ -125,26 +129,26 @@ impl Context<'_> {
     #[tactic(auto, unfolding(crate::specs::Reader::glyph_condition))]
     fn glyph_condition(&self, line: &[u8], at: usize, wanted: bool) -> Result<Front, LineFault>
         requires { at ≤ length line.now }
-        ensures value { result ≡ glyph_condition self.now.charset (definitions self.now.pairs.count self.now.pairs.words.now) wanted line.now at }
+        ensures value { result ≡ glyph_condition self.now.charset (known self.now.pairs) wanted line.now at }
         ensures front_within { FrontWithin result 1 (length line.now) }
     {
         let operand = operands::character_at(self.charset, line, at, OperandKind::Character)?;
         Ok(condition_at(line, operand.after, self.has_glyph(operand.value) == wanted))
     }
 
-    // `ifCell` and `ifNotCell` from behind the directive word on.
+    // `ifCell` and `ifNotCell` from behind the directive word on, with an operand and a test of their own.
     #[tactic(auto, unfolding(crate::specs::Reader::cell_condition))]
     fn cell_condition(&self, line: &[u8], at: usize, wanted: bool) -> Result<Front, LineFault>
         requires { at ≤ length line.now }
-        ensures value { result ≡ cell_condition (definitions self.now.pairs.count self.now.pairs.words.now) wanted line.now at }
+        ensures value { result ≡ cell_condition (known self.now.pairs) wanted line.now at }
         ensures front_within { FrontWithin result 1 (length line.now) }
     {
         let operand = operands::cell_operand_at(line, at)?;
         Ok(condition_at(line, operand.after, self.has_cell(operand.value) == wanted))
     }
 
-    // What stands behind a directive word, with room for so many conditions; the word begins `left` bytes before the line's
-    // end.
+    // What stands behind a directive word, with room for so many conditions; the word begins `left` bytes before the
+    // line's end.
     #[tactic(auto, using(crate::proofs::Reader::front_room))]
     fn after_directive(
         &self,
@@ -155,7 +159,8 @@ impl Context<'_> {
         left: usize,
     ) -> Result<Front, LineFault>
         requires { at ≤ length line.now }
-        ensures value { result ≡ after_directive self.now.charset (definitions self.now.pairs.count self.now.pairs.words.now) room line.now directive at left }
+        ensures value { result
+            ≡ after_directive self.now.charset (known self.now.pairs) room line.now directive at left }
         ensures front_within { FrontWithin result room (length line.now) }
     {
         match directive {
@@ -178,7 +183,7 @@ impl Context<'_> {
     #[tactic(auto, using(crate::proofs::Reader::front_read))]
     fn front_of(&self, line: &[u8], w: Word, room: usize) -> Result<Front, LineFault>
         requires { NextWord line.now 0 w }
-        ensures value { result ≡ front_of self.now.charset (definitions self.now.pairs.count self.now.pairs.words.now) room line.now }
+        ensures value { result ≡ front_of self.now.charset (known self.now.pairs) room line.now }
         ensures front_within { FrontWithin result room (length line.now) }
     {
         let left = line.len() - w.start;
@@ -194,7 +199,7 @@ impl Context<'_> {
     // A directive, with room for so many conditions, whose word is `w`: it calls itself on the rest of the line.
     fn read_from(&self, line: &[u8], w: Word, room: usize) -> Result<Reading, LineFault>
         requires { NextWord line.now 0 w }
-        ensures { result ≡ read_from self.now.charset (definitions self.now.pairs.count self.now.pairs.words.now) room line.now }
+        ensures { result ≡ read_from self.now.charset (known self.now.pairs) room line.now }
     {
         match self.front_of(line, w, room)? {
             Front::Whole(reading) => Ok(reading),
@@ -209,7 +214,7 @@ impl Context<'_> {
     // A line that is no comment.
     #[tactic(auto, using(crate::proofs::Reader::first))]
     fn read_first(&self, around: Around, line: &[u8]) -> Result<Reading, LineFault>
-        ensures { result ≡ read_first self.now.charset (definitions self.now.pairs.count self.now.pairs.words.now) around line.now }
+        ensures { result ≡ read_first self.now.charset (known self.now.pairs) around line.now }
     {
         let w = lines::next_word(line, 0);
         let left = line.len() - w.start;
@@ -324,7 +329,7 @@ fn has_room(room: usize, left: usize) -> Result<(), LineFault>
 }
 
 // Behind a failed condition, or inside lines not taken, only a block that opens counts, beside a fault.
-#[tactic(auto, using(basics::proofs::Tests::chosen, crate::proofs::Reader::inert_block), unfolding(crate::specs::Reader::if_holds))]
+#[tactic(auto, using(crate::proofs::Reader::unmet), unfolding(crate::specs::Reader::if_holds))]
 fn if_holds(holds: bool, reading: Reading) -> Reading
     ensures { result ≡ if_holds holds reading }
 {
@@ -337,7 +342,8 @@ fn if_holds(holds: bool, reading: Reading) -> Reading
     }
 }
 
-// `else` or `endIf` from behind its word on, which begins `left` bytes before the line's end.
+// `else` or `endIf` from behind its word on, which begins `left` bytes before the line's end. `may` is what the blocks
+// around answer for this word.
 #[tactic(auto, unfolding(crate::specs::Reader::block_line))]
 fn block_line(
     line: &[u8],
@@ -361,7 +367,7 @@ fn block_line(
 // A whole line, without its end.
 #[tactic(auto, using(lines::proofs::Openings::on_opening), unfolding(crate::specs::Reader::read_line))]
 pub fn read_line(pairs: Pairs<'_>, around: Around, line: &[u8]) -> Result<Reading, LineFault>
-    ensures { result ≡ read_line (charset_of pairs.entry.words.now) (definitions pairs.entry.count pairs.entry.words.now) around line.now }
+    ensures { result ≡ read_line (charset_of pairs.entry.words.now) (known pairs.entry) around line.now }
 {
     match lines::open_line(line)? {
         Opening::Skip => Ok(Reading::NoEffect),

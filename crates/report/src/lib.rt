@@ -8,7 +8,7 @@ ghost use Rattle.report.specs.Report.{Held, decimal, report_of, line_of};
 use lines::Rejection;
 use std::marker::Model;
 
-// A line in fixed memory: the first `length` of the bytes.
+// A line in fixed memory, since there is no heap: the first `length` of the bytes.
 #[derive(Clone, Copy)]
 pub struct Line {
     bytes: [u8; 64],

@@ -17,7 +17,8 @@ use Rattle.definitions.specs.declared.Meaning.TheVariants.{Typed, Shown, Alias}
 use Rattle.definitions.specs.declared.Definition.{Definition}
 use Rattle.table.proofs.Readback.{InRange, is_number_in_range}
 use Rattle.operands.specs.Operands as O
-use Rattle.reader.specs.Reader.{condition_of, directive_of, finished, define, dots_meaning, dots_line, alias_line, front_of, read_from, if_holds, read_first, read_line}
+use Rattle.reader.specs.Reader.{condition_of, directive_of, finished, define, dots_meaning, dots_line, alias_line, front_of, read_from, if_holds}
+use Rattle.reader.specs.Reader.{read_first, read_line}
 use Rattle.reader.specs.declared.Reading.{Reading}
 use Rattle.reader.specs.declared.Reading.TheVariants.{Define}
 use Rattle.operands.specs.Operands.{character_at, dots_operand_at}
@@ -79,7 +80,8 @@ module _ (charset : ℕ) (ds : List Definition) where
 
     word_read : (m : Meaning) → Plain (whole m) → length (whole m) ≤ line_limit → ((left : ℕ) → behind m (whole m) left ≡ Ok (define c m left))
         → read_line charset ds (around_of []) (whole m) ≡ Ok (define c m (length (whole m) - 0))
-    unfolding read_line opening_of is_over word_at first_at first_from is_blank read_first same_bytes read_from front_of directive_of condition_of if_holds around_of
+    unfolding read_line opening_of is_over word_at first_at first_from is_blank read_first same_bytes read_from front_of directive_of condition_of
+        if_holds around_of
     word_read (Typed n) p l e = rw (le-ltb line_limit _ l, plain_utf8 _ 0 p, e)
     word_read (Shown n) p l e = rw (le-ltb line_limit _ l, plain_utf8 _ 0 p, e)
     word_read (Alias t) p l e = rw (le-ltb line_limit _ l, plain_utf8 _ 0 p, e)
@@ -89,17 +91,23 @@ module _ (charset : ℕ) (ds : List Definition) where
     line_back m d l p e =
         let plain = line_plain (directive_word m) (operand_text m) c p d in
         let size = line_length_lem (directive_word m) (operand_text m) c in
-        record { plain = plain; short = omega (arith, size); reads = word_read m plain (omega (arith, size)) e ∙ ap (λ (left : ℕ). Ok (define c m left)) (omega arith) }
+        record {
+          plain = plain;
+          short = omega (arith, size);
+          reads = word_read m plain (omega (arith, size)) e ∙ ap (λ (left : ℕ). Ok (define c m left)) (omega arith);
+        }
 
     meaning_back : is_operand c ≡ true → (m : Meaning) → is_number_in_range m ≡ true → LineBack (record { character = c; meaning = m })
     meaning_back h (Typed n) e =
         let l : n < 256 = omega (arith, leb-true n 255 e) in
         let all = (all_listed c).0 in
-        line_back (Typed n) (dots_plain c (ascii "char") all n l) (omega (arith, dots_few n l)) refl (λ left. dots_read (ascii "char") charset c h true n left (dots_behind_lem c (ascii "char") all n l))
+        line_back (Typed n) (dots_plain c (ascii "char") all n l) (omega (arith, dots_few n l)) refl
+        (λ left. dots_read (ascii "char") charset c h true n left (dots_behind_lem c (ascii "char") all n l))
     meaning_back h (Shown n) e =
         let l : n < 256 = omega (arith, leb-true n 255 e) in
         let all = (all_listed c).1 in
-        line_back (Shown n) (dots_plain c (ascii "glyph") all n l) (omega (arith, dots_few n l)) refl (λ left. dots_read (ascii "glyph") charset c h false n left (dots_behind_lem c (ascii "glyph") all n l))
+        line_back (Shown n) (dots_plain c (ascii "glyph") all n l) (omega (arith, dots_few n l)) refl
+        (λ left. dots_read (ascii "glyph") charset c h false n left (dots_behind_lem c (ascii "glyph") all n l))
     meaning_back h (Alias t) e =
         line_back (Alias t) (digits_plain t) (omega (arith, digits_length 8 t)) refl (λ left. alias_read (ascii "alias") charset c h t left e)
 

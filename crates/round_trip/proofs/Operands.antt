@@ -47,7 +47,14 @@ digits_back (suc k) n f l =
     let small : n % 16 < 16 = omega arith in
     let digit = eqb-true (digit_of (hex_digit (n % 16))) (n % 16) (below 16 (λ d. eqb (digit_of (hex_digit d)) d) all_digits (n % 16) small) in
     let whole : n / 16 * 16 + n % 16 ≡ n = omega arith in
-    rw (digits_snoc (hex_digits k (n / 16)) (hex_digit (n % 16)) 0, digits_back k (n / 16) f (omega arith), digit, lt-ltb (n % 16) 16 small, whole, lt-ltb n no_number l)
+    rw (
+      digits_snoc (hex_digits k (n / 16)) (hex_digit (n % 16)) 0,
+      digits_back k (n / 16) f (omega arith),
+      digit,
+      lt-ltb (n % 16) 16 small,
+      whole,
+      lt-ltb n no_number l,
+    )
 
 number_back : (c : ℕ) → c < no_number → word_number (escaped c) ≡ c
 unfolding word_number radix_of
@@ -132,5 +139,6 @@ module _ (c : ℕ) (word : List ℕ) where
     dots_behind_lem = is_parsed_lem (dots_behind n) n (length word + 12 + length (dots_text n)) listed.1
 
 pub all_listed : (c : ℕ) → (all_below 256 (is_listed c (ascii "char")) ≡ true) × (all_below 256 (is_listed c (ascii "glyph")) ≡ true)
-unfolding hex_digits dots_text raised_from operand_word dots_operand_at word_at first_at first_from is_blank dots_at cell_at ends_at digits_at inside_at raise raise_inside raise_by
+unfolding hex_digits dots_text raised_from operand_word dots_operand_at word_at first_at first_from is_blank dots_at cell_at ends_at digits_at
+    inside_at raise raise_inside raise_by
 all_listed c = (refl, refl)

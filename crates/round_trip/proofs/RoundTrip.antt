@@ -37,11 +37,13 @@ module _ (charset : ℕ) where
   listing_short [] f = omega arith
   listing_short (d ∷ ds) f = omega (arith, length-append (line_of d) (10 ∷ listing ds), (listed_back charset [] d f.0).short, listing_short ds f.1)
 
-  step_listed : (ds : List Definition) (n : ℕ) (d : Definition) → InRange d → verdict_of ds d ≡ Ok tt → step charset (so ds n) (without_cr (line_of d)) ≡ next (so (ds ++ d ∷ []) (n + 1))
+  step_listed : (ds : List Definition) (n : ℕ) (d : Definition) → InRange d → verdict_of ds d ≡ Ok tt
+      → step charset (so ds n) (without_cr (line_of d)) ≡ next (so (ds ++ d ∷ []) (n + 1))
   unfolding step line_effect
   step_listed ds n d f v = let b = listed_back charset ds d f in rw (plain_cr (line_of d) b.plain, b.reads, v)
 
-  run_listed : (rs ds : List Definition) (n k : ℕ) → Admits ds rs → AllInRange rs → run_lines (step charset) (map line_of rs) n (so ds k) ≡ accepted (so (ds ++ rs) (k + length rs))
+  run_listed : (rs ds : List Definition) (n k : ℕ) → Admits ds rs → AllInRange rs
+      → run_lines (step charset) (map line_of rs) n (so ds k) ≡ accepted (so (ds ++ rs) (k + length rs))
   unfolding run_lines
   run_listed [] ds n k h f = cc (append-nil ds, add-zero k)
   run_listed (d ∷ rs) ds n k h f =
@@ -62,7 +64,8 @@ module _ (ws slice : List ℕ) (enough : table_words ≤ length slice) where
       let ds = definitions n ws in
       let set = charset_of ws in
       let e = listing_compiled set ds l.admits l.in_range in
-      let size : length (image_of set ds) ≡ table_words = omega (arith, length-append (pairs_of ds) (set ∷ 0 ∷ []), pairs_length ds (admits_limit ds l.admits)) in
+      let size : length (image_of set ds) ≡ table_words =
+      omega (arith, length-append (pairs_of ds) (set ∷ 0 ∷ []), pairs_length ds (admits_limit ds l.admits)) in
       let listed : take table_words ws ≡ image_of set ds = ap (take table_words) l.image ∙ take_at (image_of set ds) (drop table_words ws) table_words size in
       record {
         short = listing_short set ds l.in_range;

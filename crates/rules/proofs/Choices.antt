@@ -7,7 +7,7 @@ use native.Mathlib.Nat.{add-zero}
 use native.Mathlib.Omega.{arith}
 use lib.Dec.{eqb}
 use lib.ListN.{length}
-use Rattle.basics.proofs.Tests.{told, by_cases, same_twice}
+use Rattle.basics.proofs.Tests.{told, by_cases, same_twice, on_value}
 use Rattle.basics.specs.Choice.{pick}
 use Rattle.std.specs.Prelude.{Option, None, Some}
 use Rattle.scalars.specs.Characters.{is_private, local_of}
@@ -46,6 +46,8 @@ rules_chosen T c = choose_chosen 3 (candidates T c) (walk T c).links
 pub asked : (T : Table) {m o : Option ℕ} {r : Option ℕ} → m ≡ o → r ≡ explicit_of T m → r ≡ explicit_of T o
 asked T p q = rw (← p) q
 
+pub ruleset later = (on_value, asked)
+
 -- rules 3 and 4 as the walk of a character decides them; w is what a call answered of it
 module _ (T : Table) (c : ℕ) (w : Walked) (from : w ≡ walk_with_cell T c) where
   module _ (last : LastCells) where
@@ -82,12 +84,16 @@ module _ (p t : Bool) (a : Answer) (e : p ≡ t) where
   other_passed is = rw (told e is, add-zero)
 
 -- what the other rules answer, of the character as it stands then
-pub rule_passed_on : (charset : ℕ) (T : Table) (last : LastCells) (c l : ℕ) (a : Answer) {r : Answer} → l ≡ local_of charset c → a ≡ rules_by T last l → r ≡ passed (is_private c) a
+pub rule_passed_on : (charset : ℕ) (T : Table) (last : LastCells) (c l : ℕ) (a : Answer) {r : Answer} → l ≡ local_of charset c → a ≡ rules_by T last l
+    → r ≡ passed (is_private c) a
     → r ≡ passed (is_private c) (rules_by T last (local_of charset c))
 rule_passed_on charset T last c l a local others e = e ∙ rw (others, local)
 
+pub ruleset answering = (rule_fits, rule_passed_on)
+
 -- both at once
-module _ (charset : ℕ) (T : Table) (last : LastCells) (c l : ℕ) (p : Bool) (a : Answer) (local : l ≡ local_of charset c) (others : a ≡ rules_by T last l) (private : p ≡ is_private c) where
+module _ (charset : ℕ) (T : Table) (last : LastCells) (c l : ℕ) (p : Bool) (a : Answer) (local : l ≡ local_of charset c)
+    (others : a ≡ rules_by T last l) (private : p ≡ is_private c) where
   pub rule_passed : p ≡ true → record { cell = a.cell; rule = a.rule + 16; links = a.links } ≡ passed (is_private c) (rules_by T last (local_of charset c))
   rule_passed is = rw (told private is, others, local)
 
@@ -95,7 +101,8 @@ module _ (charset : ℕ) (T : Table) (last : LastCells) (c l : ℕ) (p : Bool) (
   rule_others is = rw (told private is, others, local, add-zero)
 
 -- the cells of rules 7 and 8, as two calls answered them
-pub both_asked : (T : Table) {replacement question : Option ℕ} → replacement ≡ explicit T 0xFFFD → question ≡ explicit T 0x3F → record { replacement = replacement; question = question } ≡ last_cells T
+pub both_asked : (T : Table) {replacement question : Option ℕ} → replacement ≡ explicit T 0xFFFD → question ≡ explicit T 0x3F
+    → record { replacement = replacement; question = question } ≡ last_cells T
 both_asked T p q = rw (p, q)
 
 -- with the table's own cells for rules 7 and 8 the rules are those of the papers

@@ -22,7 +22,9 @@ later_candidates T last c = explicit_of T (base_of c) ∷ explicit_of T (stand_i
 -- rules 3 and 4, for a walk with that cell at its end
 abbrev pub walk_answer : ℕ → ℕ → Answer
 walk_answer cell links =
-    pick (eqb links 0) (record { cell = cell; rule = 3; links = links }) (record { cell = cell; rule = 4; links = links })
+    pick (eqb links 0)
+    (record { cell = cell; rule = 3; links = links })
+    (record { cell = cell; rule = 4; links = links })
 
 -- rules 3 to 9, and all of them, with any two cells for rules 7 and 8
 abbrev pub rules_by : Table → LastCells → ℕ → Answer

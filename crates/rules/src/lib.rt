@@ -37,7 +37,8 @@ impl<T: Finder> Rules<T> {
     // Asks for the cells of rules 7 and 8, once for all characters of a call.
     #[tactic(auto, using(crate::proofs::Choices::both_asked))]
     pub fn new(finder: T, charset: u32) -> Rules<T>
-        ensures { result ≡ record { finder = finder; charset = charset; last = last_cells (table (T.definitions finder)) } }
+        ensures { result
+            ≡ record { finder = finder; charset = charset; last = last_cells (table (T.definitions finder)) } }
     {
         let replacement = pairs::explicit_cell(&finder, 0xFFFD);
         let question = pairs::explicit_cell(&finder, 0x3F);
@@ -60,7 +61,7 @@ impl<T: Finder> Rules<T> {
     }
 
     // Rules 5 to 9.
-    #[tactic(auto, using(basics::proofs::Tests::on_value, crate::proofs::Choices::asked), unfolding(crate::specs::Rules::choose))]
+    #[tactic(auto, using(crate::proofs::Choices::later), unfolding(crate::specs::Rules::choose))]
     fn later_rules(&self, c: u32, links: usize) -> Answer
         ensures { result ≡ choose 5 (later_candidates (table (T.definitions self.now.finder)) self.now.last c) links }
     {
@@ -94,7 +95,7 @@ impl<T: Finder> Rules<T> {
     }
 
     // The answer for a scalar value, by all the rules.
-    #[tactic(auto, using(basics::proofs::Tests::chosen, crate::proofs::Choices::rule_fits, crate::proofs::Choices::rule_passed_on))]
+    #[tactic(auto, using(basics::proofs::Tests::chosen, crate::proofs::Choices::answering))]
     pub fn answer_of(&self, c: u32) -> Answer
         ensures { result ≡ lookup_by self.now.charset (table (T.definitions self.now.finder)) self.now.last c }
     {

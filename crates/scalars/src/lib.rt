@@ -34,7 +34,8 @@ pub fn is_operand(c: u32) -> bool
     is_scalar(c) && !is_private(c)
 }
 
-// The local character sets by number.
+// The local character sets by number and not as an enum: C and the words of a table name them so, and any number may be
+// asked for.
 pub const ISO_8859_1: u32 = 1;
 
 pub const ISO_8859_15: u32 = 2;
@@ -75,7 +76,7 @@ fn character_by(rows: &[(u8, u32)], byte: u8) -> u32
         .map_or(u32::from(byte), |&(_, character)| character)
 }
 
-// The byte of a character by such rows.
+// The byte of a character by such rows. A loop: two tests of a row end it, each with another answer.
 fn byte_by(rows: &[(u8, u32)], c: u32) -> Option<u8>
     ensures { result ≡ byte_by rows.now c }
 {
@@ -120,6 +121,7 @@ pub fn local_of(charset: u32, c: u32) -> u32
     ensures { result ≡ local_of charset c }
 {
     if is_private(c) {
+        // `as`: the low eight bits fit.
         local_character(charset, (c % 256) as u8)
     } else {
         c

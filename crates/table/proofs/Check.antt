@@ -79,7 +79,8 @@ in_turn true false false x y = refl
 check_first : (ds more : List Definition) (n c w : ℕ) (ws : List ℕ) → length ds ≡ n → more ≡ ds ++ definition_of c w ∷ [] → check_from ds (c ∷ w ∷ ws)
     ≡ pick (is_zero_pair c w) (zero_from n (n + 1) ws) (pick (is_sound_pair c w) (if_fresh ds (definition_of c w) n (check_from more ws)) (Err n))
 unfolding check_from if_fresh
-check_first ds more n c w ws e m = rw (← e, m) (ap (pick (is_zero_pair c w) _) (in_turn (is_sound_pair c w) (is_defined ds c) (closes_loop ds (definition_of c w)) _ _))
+check_first ds more n c w ws e m =
+    rw (← e, m) (ap (pick (is_zero_pair c w) _) (in_turn (is_sound_pair c w) (is_defined ds c) (closes_loop ds (definition_of c w)) _ _))
 
 pub check_start : (ws : List ℕ) → check_from (definitions 0 ws) (drop (2 * 0) ws) ≡ check_from [] ws
 unfolding definitions
@@ -89,7 +90,8 @@ check_start ws = refl
 module _ (ws : List ℕ) (k : ℕ) (inv : check_from (definitions k ws) (drop (2 * k) ws) ≡ check_from [] ws) (len : length ws ≡ pair_words) where
   pub check_next : {v : Result ℕ ℕ} → k < definition_limit
       → v ≡ pick (is_zero_pair (character ws k) (word ws k)) (zero_from k (k + 1) (behind ws k))
-      (pick (is_sound_pair (character ws k) (word ws k)) (if_fresh (definitions k ws) (definition_of (character ws k) (word ws k)) k (check_from (definitions (k + 1) ws) (behind ws k)))
+      (pick (is_sound_pair (character ws k) (word ws k))
+      (if_fresh (definitions k ws) (definition_of (character ws k) (word ws k)) k (check_from (definitions (k + 1) ws) (behind ws k)))
       (Err k))
       → v ≡ check_from [] ws
   check_next h e =
@@ -109,7 +111,8 @@ module _ (next : Result ℕ ℕ) (ws : List ℕ) (k c w : ℕ) (inv : if_fresh (
   unfolding if_fresh
   check_repeat h l e = rw (← scan_here _ k j ws c scan h l e refl) at inv
 
-  pub check_none : {m : Meaning} {v : Result ℕ ℕ} → k ≤ j → m ≡ meaning_of w → v ≡ pick (closes_loop (definitions k ws) (record { character = c; meaning = m })) (Err k) next → v ≡ check_from [] ws
+  pub check_none : {m : Meaning} {v : Result ℕ ℕ} → k ≤ j → m ≡ meaning_of w
+      → v ≡ pick (closes_loop (definitions k ws) (record { character = c; meaning = m })) (Err k) next → v ≡ check_from [] ws
   unfolding if_fresh
   check_none none says e = (rw says at e) ∙ rw (← scan_none _ k j ws c scan none) at inv
 
@@ -134,7 +137,8 @@ module _ (ws : List ℕ) (p : Result ℕ ℕ) (pairs : p ≡ check_from [] (take
     check_end t = rw (← pairs, q, ← end, t)
 
 -- p is what the check of the pairs answered
-pub check_whole : (ws : List ℕ) (p : Result ℕ ℕ) {r : Result ℕ ℕ} → p ≡ check_from [] (take pair_words ws) → r ≡ and_end (is_sound_end (charset_of ws) (get_or ws (pair_words + 1) 0)) p → r ≡ check_of ws
+pub check_whole : (ws : List ℕ) (p : Result ℕ ℕ) {r : Result ℕ ℕ} → p ≡ check_from [] (take pair_words ws)
+    → r ≡ and_end (is_sound_end (charset_of ws) (get_or ws (pair_words + 1) 0)) p → r ≡ check_of ws
 unfolding check_of
 check_whole ws p e q = rw (← e) q
 

@@ -20,8 +20,10 @@ use Rattle.definitions.specs.declared.Definition.{Definition}
 use Rattle.std.specs.Prelude.{Result, Ok, Err}
 use Rattle.definitions.specs.Effects.{definition_limit, is_defined, closes_loop, verdict_of}
 use Rattle.definitions.proofs.Admission.{admissible, Admits, admits_limit}
-use Rattle.pairs.specs.Words.{pair_words, table_words, kind_unit, word_of, words_of, pairs_of, image_of, charset_of, is_sound_word, meaning_of, definition_of, definitions}
-use Rattle.table.specs.Check.{is_zero_pair, is_definable, is_sound_pair, is_fresh, zero_from, check_from, is_sound_end, and_end, check_of, checked_table, lent_table}
+use Rattle.pairs.specs.Words.{pair_words, table_words, kind_unit, word_of, words_of, pairs_of, image_of, charset_of, is_sound_word, meaning_of}
+use Rattle.pairs.specs.Words.{definition_of, definitions}
+use Rattle.table.specs.Check.{is_zero_pair, is_definable, is_sound_pair, is_fresh, zero_from, check_from, is_sound_end, and_end, check_of}
+use Rattle.table.specs.Check.{checked_table, lent_table}
 use Rattle.std.specs.Prelude.{Result, Ok, Err}
 
 -- ---- numbers in range
@@ -106,7 +108,12 @@ words_length (d ∷ ds) = omega (arith, words_length ds)
 
 pub pairs_length : (ds : List Definition) → length ds ≤ definition_limit → length (pairs_of ds) ≡ pair_words
 pairs_length ds h =
-    omega (arith, length-append (words_of ds) (replicate (pair_words - 2 * length ds) 0), words_length ds, length-replicate {A = ℕ} (pair_words - 2 * length ds) 0)
+    omega (
+      arith,
+      length-append (words_of ds) (replicate (pair_words - 2 * length ds) 0),
+      words_length ds,
+      length-replicate {A = ℕ} (pair_words - 2 * length ds) 0,
+    )
 
 -- what stands behind the pairs says the set, and what lies beyond the table
 module _ (ws u : List ℕ) (charset : ℕ) (behind : drop pair_words ws ≡ charset ∷ 0 ∷ u) where
@@ -176,7 +183,8 @@ module _ (ds : List Definition) (h : Admits [] ds) (f : AllInRange ds) (charset 
     pub image_lent : lent_table image ≡ answered ds
     unfolding lent_table
     image_lent =
-        let long : table_words ≤ length image = omega (arith, ap length parts, length-append (pairs_of ds) (charset ∷ 0 ∷ u), pairs_length ds (admits_limit ds h)) in
+        let long : table_words ≤ length image =
+        omega (arith, ap length parts, length-append (pairs_of ds) (charset ∷ 0 ∷ u), pairs_length ds (admits_limit ds h)) in
         rw (le-ltb (length image) table_words long, image_sound, image_back)
 
 -- ---- words that pass the check
@@ -211,7 +219,8 @@ no_more ds ws e z =
     let l : length ws - 0 ≡ length ws = omega arith in
     record { rest = []; count = omega arith; admits = tt; in_range = tt; words = rw l z }
 
-fresh_admitted : (ds : List Definition) (d : Definition) → is_braille d.character ≡ false → is_fresh ds d ≡ true → length ds < definition_limit → verdict_of ds d ≡ Ok tt
+fresh_admitted : (ds : List Definition) (d : Definition) → is_braille d.character ≡ false → is_fresh ds d ≡ true → length ds < definition_limit
+    → verdict_of ds d ≡ Ok tt
 unfolding verdict_of
 fresh_admitted ds d plain e room =
     let parts = both (not (is_defined ds d.character)) (not (closes_loop ds d)) e in
@@ -234,7 +243,8 @@ one_more ds c w ws room e r =
       words = rw (l, says.1) (ap (λ (v : List ℕ). c ∷ w ∷ v) r.words);
     }
 
-check_reads : (ds : List Definition) (ws : List ℕ) {n : ℕ} (m : ℕ) → length ws ≡ 2 * m → length ds + m ≤ definition_limit → check_from ds ws ≡ Ok n → PairsRead ds ws n
+check_reads : (ds : List Definition) (ws : List ℕ) {n : ℕ} (m : ℕ) → length ws ≡ 2 * m → length ds + m ≤ definition_limit → check_from ds ws ≡ Ok n
+    → PairsRead ds ws n
 unfolding check_from
 check_reads ds [] m l room e = no_more ds [] (cc) refl
 check_reads ds (c ∷ []) m l room e = absurd (omega arith)
@@ -261,11 +271,13 @@ pub record Lent (ws : List ℕ) (n : ℕ) : Type 0 where
   pub charset : is_charset (charset_of ws) ≡ true
   pub image : ws ≡ image_of (charset_of ws) (definitions n ws) ++ drop table_words ws
 
-lent_read : (ws : List ℕ) (n : ℕ) → table_words ≤ length ws → PairsRead [] (take pair_words ws) n → is_sound_end (charset_of ws) (get_or ws (pair_words + 1) 0) ≡ true → Lent ws n
+lent_read : (ws : List ℕ) (n : ℕ) → table_words ≤ length ws → PairsRead [] (take pair_words ws) n
+    → is_sound_end (charset_of ws) (get_or ws (pair_words + 1) 0) ≡ true → Lent ws n
 lent_read ws n long r sound =
     let end = both (is_charset (charset_of ws)) (eqb (get_or ws (pair_words + 1) 0) 0) sound in
     let pairs : take pair_words ws ≡ pairs_of r.rest = rw (length-take-le pair_words ws (omega arith)) at r.words in
-    let behind : drop pair_words ws ≡ charset_of ws ∷ 0 ∷ drop table_words ws = rw (eqb-true (get_or ws (pair_words + 1) 0) 0 end.1) at (two_more ws pair_words (omega arith)) in
+    let behind : drop pair_words ws ≡ charset_of ws ∷ 0 ∷ drop table_words ws =
+    rw (eqb-true (get_or ws (pair_words + 1) 0) 0 end.1) at (two_more ws pair_words (omega arith)) in
     let image : ws ≡ image_of (charset_of ws) r.rest ++ drop table_words ws =
     sym (take-append-drop pair_words ws) ∙ rw (pairs, behind) (sym (append_assoc (pairs_of r.rest) (charset_of ws ∷ 0 ∷ []) (drop table_words ws))) in
     let count : n ≡ length r.rest = omega (arith, r.count) in
@@ -282,7 +294,8 @@ lent_read ws n long r sound =
     }
 
 -- both parts of a check that is passed
-pub sound_parts : (ws : List ℕ) (n : ℕ) → check_of ws ≡ Ok n → (is_sound_end (charset_of ws) (get_or ws (pair_words + 1) 0) ≡ true) × (check_from [] (take pair_words ws) ≡ Ok n)
+pub sound_parts : (ws : List ℕ) (n : ℕ) → check_of ws ≡ Ok n
+    → (is_sound_end (charset_of ws) (get_or ws (pair_words + 1) 0) ≡ true) × (check_from [] (take pair_words ws) ≡ Ok n)
 unfolding check_of
 sound_parts ws n e = go (check_from [] (take pair_words ws)) refl e
   where
@@ -297,7 +310,8 @@ lent ws n long e =
     lent_read ws n long (check_reads [] (take pair_words ws) definition_limit (length-take-le pair_words ws (omega arith)) (omega arith) parts.1) parts.0
 
 -- what holds of the pairs of a slice that passes the check holds of the table that it is
-pub lent_table_lem : (P : List Definition → Type 0) (ws : List ℕ) (ds : List Definition) → ((n : ℕ) → Lent ws n → P (definitions n ws)) → lent_table ws ≡ answered ds → P ds
+pub lent_table_lem : (P : List Definition → Type 0) (ws : List ℕ) (ds : List Definition) → ((n : ℕ) → Lent ws n → P (definitions n ws))
+    → lent_table ws ≡ answered ds → P ds
 unfolding lent_table
 lent_table_lem P ws ds holds e =
     by_test (λ (r : Reply (List Definition)). r ≡ answered ds → P ds) (ltb (length ws) table_words)

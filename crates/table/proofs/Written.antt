@@ -57,7 +57,8 @@ abbrev pub stored : List ℕ → ℕ → Definition → List ℕ
 stored ws n d = set (set ws (2 * n) d.character) (2 * n + 1) (word_of d.meaning)
 
 -- they differ from the words before in these two
-stored_two : (ws : List ℕ) (n : ℕ) (d : Definition) → 2 * n + 1 < length ws → stored ws n d ≡ take (2 * n) ws ++ d.character ∷ word_of d.meaning ∷ drop (2 * n + 2) ws
+stored_two : (ws : List ℕ) (n : ℕ) (d : Definition) → 2 * n + 1 < length ws
+    → stored ws n d ≡ take (2 * n) ws ++ d.character ∷ word_of d.meaning ∷ drop (2 * n + 2) ws
 stored_two ws n d h = rw add-one (rw append_assoc at (sets-eq (d.character ∷ word_of d.meaning ∷ []) ws (2 * n) (omega arith)))
 
 stored_words : (ds : List Definition) (d : Definition) (v : List ℕ) → stored (words_of ds ++ 0 ∷ 0 ∷ v) (length ds) d ≡ words_of (ds ++ d ∷ []) ++ v

@@ -1,5 +1,5 @@
--- A lent slice is a compiled table exactly if pairs from the front are sound definitions, the rest up to 2,048 words are zero, and
--- behind them stand a local character set and a zero.
+-- A lent slice is a compiled table exactly if pairs from the front are sound definitions, the rest up to 2,048 words
+-- are zero, and behind them stand a local character set and a zero.
 use Rattle.std.specs.Prelude.{ℕ, ◌+◌, Bool, not, ◌&&◌, List, [], ◌∷◌, ◌++◌, length, get_or, take, eqb, ltb}
 use Rattle.basics.specs.Choice.{pick}
 use Rattle.basics.specs.Refusals.{Reply, answered, refused}
@@ -59,7 +59,8 @@ abbrev pub checked_table : List ℕ → Result ℕ ℕ → Reply (List Definitio
 checked_table ws (Ok n) = answered (definitions n ws)
 checked_table ws (Err pair) = refused 15 pair
 
--- the definitions of the table that a lent slice is: 2 for a slice under 2,050 words, else 15 at the first pair at fault
+-- the definitions of the table that a lent slice is: 2 for a slice under 2,050 words, else 15 at the first pair at
+-- fault
 unfoldable pub lent_table : List ℕ → Reply (List Definition)
 lent_table ws =
     let checked : Reply (List Definition) = checked_table ws (check_of ws) in

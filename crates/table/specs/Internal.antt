@@ -13,7 +13,11 @@ pub record Written (ws : List ℕ) (count : ℕ) : Type 0 where
   pub room : count ≤ definition_limit
   pub long : table_words ≤ length ws
 
+-- the definitions that pairs are
+abbrev pub known : Pairs → List Definition
+known p = definitions p.count p.words.now
+
 -- the definitions of the table that a call answered, or the number and place of its refusal
 abbrev pub lent_reply : Result Pairs Refused → Reply (List Definition)
-lent_reply (Ok p) = answered (definitions p.count p.words.now)
+lent_reply (Ok p) = answered (known p)
 lent_reply (Err e) = refused (number_of e.refusal) e.place

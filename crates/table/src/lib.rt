@@ -1,12 +1,13 @@
-// A compiled table: 2,050 words of a lent slice, two a definition, then the local character set and a zero. A count is that
-// of the pairs that count as definitions.
+// A compiled table: 2,050 words of a lent slice, two a definition, then the local character set and a zero. A count is
+// that of the pairs that count as definitions.
 #![tactic(auto)]
 
 ghost use Rattle.std.specs.Prelude.{◌≡◌, [], ◌∷◌, ◌++◌, ◌+◌, ◌*◌, ◌≤◌, ◌<◌, length, drop, set, replicate, IfOk};
 ghost use Rattle.basics.specs.Internal.{bits_of};
 ghost use Rattle.definitions.specs.Effects.{definition_limit};
 ghost use Rattle.pairs.specs.Words.{pair_words, table_words, kind_unit, word_of, is_sound_word, charset_of};
-ghost use Rattle.table.specs.Check.{is_zero_pair, is_definable, is_sound_pair, zero_from, check_from, is_sound_end, and_end, check_of, lent_table};
+ghost use Rattle.table.specs.Check.{is_zero_pair, is_definable, is_sound_pair, zero_from, check_from};
+ghost use Rattle.table.specs.Check.{is_sound_end, and_end, check_of, lent_table};
 ghost use Rattle.table.specs.Internal.{lent_reply};
 
 use basics::{Refusal, Refused};
@@ -96,7 +97,7 @@ pub fn is_sound_pair(c: u32, w: u32) -> bool
 }
 
 // The bits that words have between them. The walk leaves only at its end, so that it is compiled to take several words
-// at a time.
+// at a time. `utf8` has the same of bytes: one for both would need a trait for the or.
 #[tactic(auto, using(basics::proofs::Bits::bits_fold))]
 fn bits_of(words: &[u32]) -> u32
     ensures { result ≡ bits_of words.now }
@@ -121,8 +122,9 @@ pub fn zero_from(words: &[u32], count: usize, from: usize) -> Result<usize, usiz
     Ok(count)
 }
 
-// The check of the pairs: each against the earlier ones, left at the first repeat. It answers how many are definitions, or
-// the first pair at fault. `k` is read behind the label, which a `for` does not let.
+// The check of the pairs: each against the earlier ones, left at the first repeat. It answers how many are definitions,
+// or the first pair at fault. The label is the form that the papers name for this check; `k` is read behind it, which a
+// `for` does not let.
 fn check_words(words: &[u32]) -> Result<usize, usize>
     requires { length words.now ≡ pair_words }
     ensures { result ≡ check_from [] words.now }

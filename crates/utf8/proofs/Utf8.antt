@@ -23,7 +23,8 @@ use Rattle.utf8.specs.declared.Utf8State.TheVariants.{Between, Inside, Broken}
 use Rattle.utf8.specs.declared.BadSequence.{BadSequence}
 use Rattle.std.specs.Prelude.{Option, Result, Ok, Err}
 
-pub byte_on : {x : Result Unit BadSequence} (line : List ℕ) (i : ℕ) (p q : Utf8State) → utf8_from (drop i line) i p ≡ x → i < length line → q ≡ after_byte p (get_or line i 0) i → utf8_from (drop (i + 1) line) (i + 1) q ≡ x
+pub byte_on : {x : Result Unit BadSequence} (line : List ℕ) (i : ℕ) (p q : Utf8State) → utf8_from (drop i line) i p ≡ x → i < length line
+    → q ≡ after_byte p (get_or line i 0) i → utf8_from (drop (i + 1) line) (i + 1) q ≡ x
 unfolding utf8_from
 byte_on line i p q inv h e = next_element utf8_from line i p inv h (rw e)
 
@@ -36,7 +37,8 @@ ascii_end_lem (b ∷ bs) i =
     (λ q. rw (q, lt-leb _ _ (ltb-true b 0x80 q)) (omega (arith, ascii_end_lem bs (i + 1))))
     (λ q. rw (q, le-leb _ _ (ltb-false b 0x80 q)) (sym (add-zero i)))
 
-pub ascii_first : (line : List ℕ) (from n : ℕ) (r : Option ℕ) → from ≤ length line → n ≡ unwrap_or r (length (end_of line from)) → r ≡ position (λ b. leb 0x80 b) (end_of line from)
+pub ascii_first : (line : List ℕ) (from n : ℕ) (r : Option ℕ) → from ≤ length line → n ≡ unwrap_or r (length (end_of line from))
+    → r ≡ position (λ b. leb 0x80 b) (end_of line from)
     → Resumed line from Between (from + n)
 ascii_first line from n r h is e = record {
   is = first_from (λ b. leb 0x80 b) line from n r is e ∙ sym (ascii_end_lem (drop from line) from);
@@ -66,7 +68,8 @@ ascii_good_with (b ∷ bs) bits i h =
 pub ascii_good : (line : List ℕ) (r : ℕ) → r ≡ bits_of line → r < 0x80 → Ok tt ≡ utf8 line
 ascii_good line r e h = ascii_good_with line 0 0 (rw e at h)
 
-pub resumed : {x : Result Unit BadSequence} (line : List ℕ) (i : ℕ) (p : Utf8State) (r : ℕ) → Resumed line i p r → utf8_from (drop i line) i p ≡ x → utf8_from (drop r line) r p ≡ x
+pub resumed : {x : Result Unit BadSequence} (line : List ℕ) (i : ℕ) (p : Utf8State) (r : ℕ) → Resumed line i p r → utf8_from (drop i line) i p ≡ x
+    → utf8_from (drop r line) r p ≡ x
 resumed line i Between r h inv = rw h.is (ascii_run line (drop i line) i refl ∙ inv)
 resumed line i (Inside left low high start) r h inv = rw h.is inv
 resumed line i (Broken start) r h inv = rw h.is inv

@@ -7,7 +7,8 @@ ghost use Rattle.utf8.specs.Utf8.{after_first, after_further, after_byte, at_end
 ghost use Rattle.utf8.specs.Internal.{BadWithin, Resumed};
 
 // Where the reading of a line as UTF-8 stands: between two characters; in a character that still wants `left` bytes,
-// the next of them from `low` to `high`; or past a bad sequence. The position is where that sequence begins.
+// the next of them from `low` to `high`; or past a bad sequence. The position is where that sequence begins. It is no
+// `Result`: a reading goes on over the bytes behind it and stays as it is.
 #[derive(Clone, Copy)]
 pub enum Utf8State {
     Between,

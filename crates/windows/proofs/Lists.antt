@@ -34,7 +34,8 @@ no_window window xs i h = drop_of_length-le (map window xs) {i = i} (omega (arit
 -- ---- within the page
 
 -- the windows behind one that is within the page
-pub within_rest : (n : ℕ) (w : Window) (ws : List Window) (i : ℕ) → all_within n (w ∷ ws) i ≡ answered tt → (w.start + w.width ≤ n) × (all_within n ws (i + 1) ≡ answered tt)
+pub within_rest : (n : ℕ) (w : Window) (ws : List Window) (i : ℕ) → all_within n (w ∷ ws) i ≡ answered tt
+    → (w.start + w.width ≤ n) × (all_within n ws (i + 1) ≡ answered tt)
 unfolding all_within
 within_rest n w ws i o =
     by_cases (is_within n w)
@@ -65,7 +66,8 @@ pub each_holds : (n cells rules : ℕ) → both_hold n cells rules ≡ true → 
 each_holds n cells rules e = grind (arith, nat_tests)
 
 module _ (ws : List Window) (room i left : ℕ) (inv : leb (widths ws) room ≡ leb (widths (drop i ws)) left) where
-  pub fit_next : {w : Window} {rest : ℕ} → drop i ws ≡ w ∷ drop (i + 1) ws → (w.width ≤ left) × (rest ≡ left - w.width) → leb (widths ws) room ≡ leb (widths (drop (i + 1) ws)) rest
+  pub fit_next : {w : Window} {rest : ℕ} → drop i ws ≡ w ∷ drop (i + 1) ws → (w.width ≤ left) × (rest ≡ left - w.width)
+      → leb (widths ws) room ≡ leb (widths (drop (i + 1) ws)) rest
   unfolding widths
   fit_next {w} next e = inv ∙ rw (next, e.1) (sym (leb_rest w.width (widths (drop (i + 1) ws)) left e.0))
 

@@ -60,7 +60,8 @@ module _ (f : ℕ → ℕ) (page : List ℕ) (ws : List Window) (old : List ℕ)
       pub in_output : at + w.width ≤ length now
       in_output = omega (arith, inv.room, left, inv.long, over_length inv.written old, ap length inv.bytes)
 
-      pub filled_more : {filled : List ℕ} → filled ≡ over (map f (take (w.start + w.width - w.start) (drop w.start page))) (take (at + w.width - at) (drop at now))
+      pub filled_more : {filled : List ℕ}
+          → filled ≡ over (map f (take (w.start + w.width - w.start) (drop w.start page))) (take (at + w.width - at) (drop at now))
           → Filled f page ws old (i + 1) (at + w.width) (take at now ++ (filled ++ drop (at + w.width - at) (drop at now)))
       unfolding parts_of
       filled_more {filled} e =

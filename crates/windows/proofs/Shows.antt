@@ -56,5 +56,6 @@ module _ (ws : List Window) (words page cells rules : List ℕ) where
             → Settles (answered tt) new-cells new-rules
         unfolding windows_plan lookup rules_from3 candidates
         shows_filled e own to-cells to-rules =
-            let all : plan ≡ answered (lookup (charset_of words) (table ds)) = rw (← lent, ← within, ← hold_least (widths ws) (length cells) (length rules), ← room, ← from, e) in
+            let all : plan ≡ answered (lookup (charset_of words) (table ds)) =
+            rw (← lent, ← within, ← hold_least (widths ws) (length cells) (length rules), ← room, ← from, e) in
             rw (to-cells, to-rules, all, own) (record { answer = refl; cells = refl; rules = refl })

@@ -36,14 +36,16 @@ digits_all ds n size each = fill_by_all (nth_digit n) ds 8 0 size each ∙ digit
 
 -- dots from the first on: x is the digits of all that are raised, those before a digit found and counted
 module _ (x ds : List ℕ) (count digit cell : ℕ) (inv : take count ds ++ raised_from (57 - digit) digit cell ≡ x) where
-  pub raised_more : digit < 57 → count + 49 ≤ digit → length ds ≡ 8 → take (count + cell % 2) (set ds count digit) ++ raised_from (57 - (digit + 1)) (digit + 1) (cell / 2) ≡ x
+  pub raised_more : digit < 57 → count + 49 ≤ digit → length ds ≡ 8
+      → take (count + cell % 2) (set ds count digit) ++ raised_from (57 - (digit + 1)) (digit + 1) (cell / 2) ≡ x
   unfolding raised_from
   raised_more h l size =
       let left : 57 - digit ≡ suc (57 - (digit + 1)) = omega arith in
       let all = rw left at inv in
       by_cases (eqb (cell % 2) 1)
       (λ e. rw (eqb-true (cell % 2) 1 e, add-one count, take-suc-set ds count digit (omega arith)) (append_snoc (take count ds) digit _ ∙ rw e at all))
-      (λ e. let none : cell % 2 ≡ 0 = omega (arith, eqb-false (cell % 2) 1 e) in rw (none, add-zero count, take-set-le count ds count digit (omega arith)) (rw e at all))
+      (λ e. let none : cell % 2 ≡ 0 = omega (arith, eqb-false (cell % 2) 1 e) in
+      rw (none, add-zero count, take-set-le count ds count digit (omega arith)) (rw e at all))
 
   pub raised_all : 57 ≤ digit → take count ds ≡ x
   unfolding raised_from

@@ -40,7 +40,12 @@ pub put_front : (text old : List ℕ) → length text ≤ length old → sets ol
 put_front text old h = rw (zero-add (length text)) at (sets-eq text old 0 (omega arith))
 
 -- a text copied into the part of a buffer that it has room in
-pub copied : (old text part : List ℕ) (at : ℕ) → at + length text ≤ length old → part ≡ text → Put old at text (at + length text) (put_mid at (at + length text - at) old part)
+pub copied : (old text part : List ℕ) (at : ℕ) → at + length text ≤ length old → part ≡ text
+    → Put old at text (at + length text) (put_mid at (at + length text - at) old part)
 copied old text part at h e =
     let room : at + length text - at ≡ length text = omega arith in
-    record { bytes = rw (e, room, sets-eq text old at h, drop-drop (length text) at old) (sym (append_assoc (take at old) text (drop (at + length text) old))); after = refl }
+    record {
+      bytes = rw (e, room, sets-eq text old at h, drop-drop (length text) at old)
+          (sym (append_assoc (take at old) text (drop (at + length text) old)));
+      after = refl;
+    }

@@ -1,6 +1,6 @@
 use Rattle.std.proofs.Common.{sym, rules}
-use Rattle.lines.proofs.Texts.{lines_read, line_read, line_refused}
-use Rattle.attributes.proofs.Compile.{long_text, come_first, no_lines, refused_as}
+use Rattle.lines.proofs.Texts.{lines_read, line_read, line_refused, refused_as}
+use Rattle.attributes.proofs.Compile.{long_text, come_first, no_lines}
 use Rattle.attributes.proofs.read_text.Goals as goal
 
 pub returns-then-text-gt-TEXT_LIMIT : goal.returns-then-text-gt-TEXT_LIMIT

@@ -5,9 +5,11 @@ use Rattle.by_order.proofs.fill_by.Goals as goal
 pub returns-clause-cells : goal.returns-clause-cells
 returns-clause-cells c =
     let o = c.args.in_order.now in
-    own_cells o.words.now (table_of o.count o.words.now) c.charset_of.ensures c.args.characters.now c.args.cells.now (rw (c.new-memory.ensures, c.new-by.ensures) at c.fill_kept.ensures.cells)
+    own_cells o.words.now (table_of o.count o.words.now) c.charset_of.ensures c.args.characters.now c.args.cells.now
+    (rw (c.new-memory.ensures, c.new-by.ensures) at c.fill_kept.ensures.cells)
 
 pub returns-clause-rules : goal.returns-clause-rules
 returns-clause-rules c =
     let o = c.args.in_order.now in
-    own_rules o.words.now (table_of o.count o.words.now) c.charset_of.ensures c.args.characters.now c.args.rules.now (rw (c.new-memory.ensures, c.new-by.ensures) at c.fill_kept.ensures.rules)
+    own_rules o.words.now (table_of o.count o.words.now) c.charset_of.ensures c.args.characters.now c.args.rules.now
+    (rw (c.new-memory.ensures, c.new-by.ensures) at c.fill_kept.ensures.rules)

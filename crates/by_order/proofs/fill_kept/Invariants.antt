@@ -10,6 +10,8 @@ invariant-loop-i g l =
     let by = l.initial.memory.by in
     record {
       same : l.memory.by ≡ by;
-      cells : l.cells ≡ filled_to (λ (x : ℕ). (lookup_by by.charset (table (g.T.Finder.definitions by.finder)) by.last x).cell) l.characters l.i l.initial.cells;
-      rules : l.rules ≡ filled_to (λ (x : ℕ). (lookup_by by.charset (table (g.T.Finder.definitions by.finder)) by.last x).rule) l.characters l.i l.initial.rules;
+      cells : l.cells ≡ filled_to
+          (λ (x : ℕ). (lookup_by by.charset (table (g.T.Finder.definitions by.finder)) by.last x).cell) l.characters l.i l.initial.cells;
+      rules : l.rules ≡ filled_to
+          (λ (x : ℕ). (lookup_by by.charset (table (g.T.Finder.definitions by.finder)) by.last x).rule) l.characters l.i l.initial.rules;
     }

@@ -1,6 +1,6 @@
 use Rattle.std.proofs.Common.{sym, rules}
-use Rattle.lines.proofs.Texts.{lines_read}
-use Rattle.byte_tables.proofs.Compile.{no_set, long_text, come_first, none_yet, refused_as, taken_refused, taken_read}
+use Rattle.lines.proofs.Texts.{lines_read, refused_as}
+use Rattle.byte_tables.proofs.Compile.{no_set, long_text, come_first, none_yet, taken_refused, taken_read}
 use Rattle.byte_tables.proofs.read_text.Goals as goal
 
 pub returns-then-not-is_charset : goal.returns-then-not-is_charset

@@ -10,4 +10,5 @@ use Rattle.lines.proofs.line_end.Goals as goal
 pub returns : goal.returns
 returns c =
     lf_first _ _ _ _ c.requires c.unwrap_or.ensures
-    (position_from_yields_List (λ b. eqb b LF) _ _ c.position.result c.position.ensures.ran (YieldsList-from_slice _ c.iter.ensures.rest) (λ x b q k. search (rules, tests)))
+    (position_from_yields_List (λ b. eqb b LF) _ _ c.position.result c.position.ensures.ran (YieldsList-from_slice _ c.iter.ensures.rest)
+    (λ x b q k. search (rules, tests)))

@@ -10,8 +10,10 @@ pub returns : goal.returns
 returns c =
     let start =
     word_first _ _ _ _ c.requires c.unwrap_or-before.ensures
-    (position_from_yields_List (λ b. not (is_blank b)) _ _ c.position.result c.position.ensures.ran (YieldsList-from_slice _ c.iter.ensures.rest) (λ x b q k. search (rules, tests)))
+    (position_from_yields_List (λ b. not (is_blank b)) _ _ c.position.result c.position.ensures.ran (YieldsList-from_slice _ c.iter.ensures.rest)
+    (λ x b q k. search (rules, tests)))
     in
     word_found _ _ _ _ start
     (blank_first _ _ _ _ start.within c.unwrap_or-count.ensures
-    (position_from_yields_List is_blank _ _ c.position-2.result c.position-2.ensures.ran (YieldsList-from_slice _ c.iter-2.ensures.rest) (λ x b q k. search (rules, tests))))
+    (position_from_yields_List is_blank _ _ c.position-2.result c.position-2.ensures.ran (YieldsList-from_slice _ c.iter-2.ensures.rest)
+    (λ x b q k. search (rules, tests))))

@@ -10,4 +10,5 @@ abbrev pub invariant-loop-i : goal.invariant-loop-i
 invariant-loop-i l =
     (length l.buffer ≡ length l.initial.buffer)
     × (l.at + length (listing (rest l.pairs.count l.i l.pairs.words.now)) ≤ length l.buffer)
-    × (sets l.buffer l.at (listing (rest l.pairs.count l.i l.pairs.words.now)) ≡ sets l.initial.buffer 0 (listing (definitions l.pairs.count l.pairs.words.now)))
+    × (sets l.buffer l.at (listing (rest l.pairs.count l.i l.pairs.words.now)) ≡ sets l.initial.buffer 0
+    (listing (definitions l.pairs.count l.pairs.words.now)))

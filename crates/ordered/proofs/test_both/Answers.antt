@@ -4,7 +4,8 @@ use Rattle.table.proofs.Check.{pairs_part}
 use Rattle.table.proofs.Lent.{lent_short, lent_fault}
 use Rattle.ordered.proofs.Checks.{tests_few, tests_refused, tests_passed, tests_order}
 use Rattle.ordered.proofs.test_both.Goals as goal
-use Rattle.ordered.proofs.test_both.Goals.{then-order-lt-DEFINITION_LIMIT-via-then-order-lt-DEFINITION_LIMIT, then-order-lt-DEFINITION_LIMIT-via-else-order-lt-DEFINITION_LIMIT+then-words-lt-TABLE_WORDS}
+use Rattle.ordered.proofs.test_both.Goals.{then-order-lt-DEFINITION_LIMIT-via-then-order-lt-DEFINITION_LIMIT}
+use Rattle.ordered.proofs.test_both.Goals.{then-order-lt-DEFINITION_LIMIT-via-else-order-lt-DEFINITION_LIMIT+then-words-lt-TABLE_WORDS}
 
 pub returns-then-order-lt-DEFINITION_LIMIT-clause-tests : goal.returns-then-order-lt-DEFINITION_LIMIT-clause-tests
 returns-then-order-lt-DEFINITION_LIMIT-clause-tests c =
@@ -28,11 +29,13 @@ returns-in_err-lent_table-clause-tests c =
 pub returns-then-not-is_rising-clause-tests : goal.returns-then-not-is_rising-clause-tests
 returns-then-not-is_rising-clause-tests c =
     rw c.into-then-not-is_rising.ensures
-    (tests_order _ _ c.if-order-lt-DEFINITION_LIMIT.false c.if-words-lt-TABLE_WORDS.false _ c.count_pairs-count.ensures.is c.if-not-is_rising.ensures _ c.in_ok-lent_table.ensures.definitions)
+    (tests_order _ _ c.if-order-lt-DEFINITION_LIMIT.false c.if-words-lt-TABLE_WORDS.false _ c.count_pairs-count.ensures.is c.if-not-is_rising.ensures
+    _ c.in_ok-lent_table.ensures.definitions)
 
 pub returns-in-Ok-clause-tests : goal.returns-in-Ok-clause-tests
 returns-in-Ok-clause-tests c =
-    tests_passed _ _ c.if-order-lt-DEFINITION_LIMIT.false c.if-words-lt-TABLE_WORDS.false _ c.count_pairs-count.ensures.is _ (sym c.in-Ok.ensures) c.if-not-is_rising.ensures
+    tests_passed _ _ c.if-order-lt-DEFINITION_LIMIT.false c.if-words-lt-TABLE_WORDS.false _ c.count_pairs-count.ensures.is _
+    (sym c.in-Ok.ensures) c.if-not-is_rising.ensures
 
 pub returns-in-Err-clause-tests : goal.returns-in-Err-clause-tests
 returns-in-Err-clause-tests c =

@@ -7,7 +7,8 @@ use Rattle.pairs.proofs.walk_from.Given as goal
 abbrev pub invariant-loop-links : goal.invariant-loop-links
 invariant-loop-links g l =
     (l.links ≤ length (g.T.Finder.definitions l.finder))
-    × (walk (table (g.T.Finder.definitions l.finder)) l.character ≡ after l.links (walk_within (alias_of (table (g.T.Finder.definitions l.finder))) (length (g.T.Finder.definitions l.finder) - l.links) l.end))
+    × (walk (table (g.T.Finder.definitions l.finder)) l.character ≡ after l.links
+    (walk_within (alias_of (table (g.T.Finder.definitions l.finder))) (length (g.T.Finder.definitions l.finder) - l.links) l.end))
 
 abbrev pub decreases-loop-links : goal.decreases-loop-links
 decreases-loop-links g l = length (g.T.Finder.definitions l.finder) - l.links

@@ -33,7 +33,10 @@ pairs-preserved c = (search rules, search rules, search (check_none, chosen))
 
 pub returns-then-k-lt-DEFINITION_LIMIT : goal.returns-then-k-lt-DEFINITION_LIMIT
 returns-then-k-lt-DEFINITION_LIMIT c =
-    elim c.pairs-test.branch [ else-pairs-test w ↦ absurd (omega arith) | then-pairs-test+else-is_zero_pair+else-not-is_sound_pair+then-loop-j-test+then-words-j w ↦ search check_repeat ]
+    elim c.pairs-test.branch [
+      | else-pairs-test w ↦ absurd (omega arith)
+      | then-pairs-test+else-is_zero_pair+else-not-is_sound_pair+then-loop-j-test+then-words-j w ↦ search check_repeat
+    ]
 
 pub returns-else-k-lt-DEFINITION_LIMIT : goal.returns-else-k-lt-DEFINITION_LIMIT
 returns-else-k-lt-DEFINITION_LIMIT c = search check_over

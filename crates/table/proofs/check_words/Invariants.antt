@@ -14,11 +14,13 @@ use Rattle.table.proofs.check_words.Given as goal
 abbrev pub invariant-loop-j : goal.invariant-loop-j
 invariant-loop-j l =
     (2 * l.k ≤ length l.words) × (find (definitions l.k l.words) l.character ≡ find (rest l.k l.j l.words) l.character)
-    × (if_fresh (definitions l.k l.words) (definition_of l.character l.w) l.k (check_from (definitions (l.k + 1) l.words) (drop (2 * (l.k + 1)) l.words)) ≡ check_from [] l.words)
+    × (if_fresh (definitions l.k l.words) (definition_of l.character l.w) l.k
+    (check_from (definitions (l.k + 1) l.words) (drop (2 * (l.k + 1)) l.words)) ≡ check_from [] l.words)
 
 -- The pairs before k are definitions; the check of the others behind them is the check of all.
 abbrev pub invariant-pairs : goal.invariant-pairs
-invariant-pairs l = (l.k ≤ definition_limit) × (length l.words ≡ pair_words) × (check_from (definitions l.k l.words) (drop (2 * l.k) l.words) ≡ check_from [] l.words)
+invariant-pairs l = (l.k ≤ definition_limit) × (length l.words ≡ pair_words)
+    × (check_from (definitions l.k l.words) (drop (2 * l.k) l.words) ≡ check_from [] l.words)
 
 abbrev pub decreases-pairs : goal.decreases-pairs
 decreases-pairs l = definition_limit - l.k

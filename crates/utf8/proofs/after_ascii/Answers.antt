@@ -8,4 +8,5 @@ use Rattle.utf8.proofs.after_ascii.Goals as goal
 pub returns : goal.returns
 returns c =
     ascii_first _ _ _ _ c.requires c.unwrap_or.ensures
-    (position_from_yields_List (λ b. leb 0x80 b) _ _ c.position.result c.position.ensures.ran (YieldsList-from_slice _ c.iter.ensures.rest) (λ x b q k. search (rules, tests)))
+    (position_from_yields_List (λ b. leb 0x80 b) _ _ c.position.result c.position.ensures.ran (YieldsList-from_slice _ c.iter.ensures.rest)
+    (λ x b q k. search (rules, tests)))

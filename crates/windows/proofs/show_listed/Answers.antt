@@ -16,11 +16,13 @@ returns-then-not-fit g c =
 
 pub returns-in-Some-first_no_scalar : goal.returns-in-Some-first_no_scalar
 returns-in-Some-first_no_scalar g c =
-    shows_no_scalar _ _ _ _ _ _ c.in_ok-pairs.ensures.definitions c.in_default.ensures (rw c.min.ensures at c.if-not-fit.ensures) c.first_no_scalar.ensures c.in-Some-first_no_scalar.is
+    shows_no_scalar _ _ _ _ _ _ c.in_ok-pairs.ensures.definitions c.in_default.ensures
+    (rw c.min.ensures at c.if-not-fit.ensures) c.first_no_scalar.ensures c.in-Some-first_no_scalar.is
 
 pub returns : goal.returns
 returns g c =
-    shows_filled _ _ _ _ _ _ c.in_ok-pairs.ensures.definitions c.in_default.ensures (rw c.min.ensures at c.if-not-fit.ensures) c.first_no_scalar.ensures c.in_default-first_no_scalar.is
+    shows_filled _ _ _ _ _ _ c.in_ok-pairs.ensures.definitions c.in_default.ensures
+    (rw c.min.ensures at c.if-not-fit.ensures) c.first_no_scalar.ensures c.in_default-first_no_scalar.is
     c.charset_of.ensures
     (rw c.new-by.ensures at c.fill.ensures.cells)
     (rw c.new-by.ensures at c.fill.ensures.rules)

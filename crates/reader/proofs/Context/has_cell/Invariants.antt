@@ -7,4 +7,5 @@ use Rattle.reader.proofs.Context.has_cell.Given as goal
 
 -- What the definitions from pair i on say of the cell is what all say.
 abbrev pub invariant-loop-i : goal.invariant-loop-i
-invariant-loop-i l = has_cell (definitions l.self.pairs.count l.self.pairs.words.now) l.cell ≡ is_some (typed_in (rest l.self.pairs.count l.i l.self.pairs.words.now) l.cell)
+invariant-loop-i l =
+    has_cell (definitions l.self.pairs.count l.self.pairs.words.now) l.cell ≡ is_some (typed_in (rest l.self.pairs.count l.i l.self.pairs.words.now) l.cell)
