@@ -1,53 +1,71 @@
 // The text of an answer, in fixed memory. What goes beyond 256 bytes is left out, so that no caller has to show room.
 #![tactic(auto)]
 
-ghost use Rattle.std.specs.Prelude.{◌≤◌};
+ghost use Rattle.std.specs.Prelude.{◌≡◌, ℕ, ◌≤◌, List, [], ◌∷◌, ◌++◌, take, flat_map, encode_utf8, Some};
 
 use std::fmt;
 use std::fmt::{Display, Write};
+use std::marker::Model;
 
 // The first `length` of the bytes.
-#[derive(Clone, Copy)]
+#[derive(Drop)]
 pub struct Text {
     bytes: [u8; 256],
     length: usize,
-    ghost within: { length ≤ 256 },
+}
+
+impl Model for Text {
+    ghost Value = { List ℕ };
+
+    ghost view = { λ text. take text.length text.bytes };
+
+    ghost invariant = { λ text. text.length ≤ 256 };
 }
 
 impl Text {
-    pub fn new() -> Text {
+    pub fn new() -> Text
+        ensures { result ≡ [] }
+    {
         Text {
             bytes: [0; 256],
             length: 0,
         }
     }
 
-    // What a value prints.
+    // What a value prints. A value may refuse to be printed halfway, so no clause says what the text holds.
     pub fn of<D: Display + Drop>(value: D) -> Text {
         let mut text = Text::new();
         let _ = text.write(value);
         text
     }
 
-    pub fn push(&mut self, byte: u8) {
-        if self.length < self.bytes.len() {
-            self.bytes[self.length] = byte;
-            self.length += 1;
-        }
+    pub fn push(&mut self, byte: u8)
+        ensures { self.new ≡ take 256 (self.old ++ byte ∷ []) }
+    {
+        self.push_bytes(&[byte]);
     }
 
-    pub fn push_bytes(&mut self, more: &[u8]) {
-        for byte in more {
-            self.push(*byte);
-        }
+    #[tactic(auto, using(crate::proofs::Texts::text_more))]
+    pub fn push_bytes(&mut self, more: &[u8])
+        ensures { self.new ≡ take 256 (self.old ++ more.now) }
+    {
+        let room = self.bytes.len() - self.length;
+        let count = more.len().min(room);
+        let end = self.length + count;
+        self.bytes[self.length..end].copy_from_slice(&more[..count]);
+        self.length = end;
     }
 
-    pub fn as_bytes(&self) -> &[u8] {
+    pub fn as_bytes(&self) -> &[u8]
+        ensures { result.now ≡ self.now }
+    {
         &self.bytes[..self.length]
     }
 }
 
 impl Write for Text {
+    ghost write_str_gives = { λ old bytes new. new ≡ take 256 (old ++ bytes) };
+
     fn write_str(&mut self, s: &str) -> fmt::Result {
         self.push_bytes(s.as_bytes());
         Ok(())
@@ -56,6 +74,8 @@ impl Write for Text {
 
 // A text is printed byte by byte, as ASCII.
 impl Display for Text {
+    ghost output = { λ text. Some (flat_map encode_utf8 text) };
+
     fn fmt<W: Write>(&self, f: &mut fmt::Formatter<W>) -> fmt::Result {
         for byte in self.as_bytes() {
             f.write_char(char::from(*byte))?;

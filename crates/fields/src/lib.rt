@@ -1,7 +1,9 @@
-// The fields of a case, which a mark separates, and what they stand for: a text, a number, several numbers.
+// The fields of a case, which a mark separates, and what they stand for: a text, a number, several numbers. What texts and
+// several numbers hold, the expected answers of the cases say: of these no clause says more than its callers need.
 #![tactic(auto)]
 
-ghost use Rattle.std.specs.Prelude.{◌≤◌, ◌<◌, length, IfSome};
+ghost use Rattle.std.specs.Prelude.{◌≡◌, ◌≤◌, ◌<◌, length, take, IfSome};
+ghost use Rattle.fields.specs.Fields.{trimmed, first_field, behind_mark, with_digit, number_of, window_number_of};
 
 use answers::Text;
 
@@ -13,33 +15,45 @@ enum Piece {
 }
 
 // A field without the blanks at both ends.
-fn without_blanks(field: &[u8]) -> &[u8] {
-    let end = field
+fn without_blanks(field: &[u8]) -> &[u8]
+    ensures { result.now ≡ trimmed field.now }
+{
+    let behind = field
         .iter()
-        .rposition(|b| !lines::is_blank(*b))
-        .map_or(0, |last| last + 1);
-    let front = &field[..end];
-    &front[lines::next_word(front, 0).start..]
+        .rev()
+        .take_while(|b| lines::is_blank(**b))
+        .count();
+    let front = &field[..field.len() - behind];
+    let before = front.iter().take_while(|b| lines::is_blank(**b)).count();
+    &front[before..]
 }
 
 // The first field, without the blanks at both ends, and what stands behind its mark.
-pub fn split(line: &[u8], mark: u8) -> (&[u8], &[u8]) {
+pub fn split(line: &[u8], mark: u8) -> (&[u8], &[u8])
+    ensures field { result.0.now ≡ first_field mark line.now }
+    ensures behind { result.1.now ≡ behind_mark mark line.now }
+{
     match line.iter().position(|b| *b == mark) {
         Some(end) => (without_blanks(&line[..end]), &line[end + 1..]),
         None => (without_blanks(line), &[]),
     }
 }
 
-// A number in hex; digits beyond those that fit do not count.
-pub fn number(digits: &[u8]) -> u32 {
-    let mut n = 0;
-    for digit in digits {
-        if 0x1000_0000 <= n {
-            return n;
-        }
-        n = n * 16 + char::from(*digit).to_digit(16).unwrap_or(0);
+// A number in hex with one digit more, unless it has eight digits.
+fn with_digit(n: u32, digit: u8) -> u32
+    ensures { result ≡ with_digit n digit }
+{
+    if 0x1000_0000 <= n {
+        return n;
     }
-    n
+    n * 16 + char::from(digit).to_digit(16).unwrap_or(0)
+}
+
+// A number in hex; digits beyond those that fit do not count.
+pub fn number(digits: &[u8]) -> u32
+    ensures { result ≡ number_of digits.now }
+{
+    digits.iter().fold(0, |n, digit| with_digit(n, *digit))
 }
 
 // The byte that a field begins with, itself or `%` and two digits, and what stands behind it.
@@ -151,13 +165,17 @@ impl<const N: usize> Numbers<N> {
         Some(Numbers { all, count })
     }
 
-    pub fn as_slice(&self) -> &[u32] {
+    pub fn as_slice(&self) -> &[u32]
+        ensures { result.now ≡ take self.now.count self.now.all }
+    {
         &self.all[..self.count]
     }
 }
 
 // A start or a width: a number from 2^31 on stands for the one that is as far below 2^64 as it is below 2^32.
-pub fn window_number(n: u32) -> usize {
+pub fn window_number(n: u32) -> usize
+    ensures { result ≡ window_number_of n }
+{
     match n {
         0..0x8000_0000 => n as usize,
         _ => 0xFFFF_FFFF_0000_0000 + n as usize,
