@@ -337,13 +337,21 @@ pub fn compile_attributes(text: &[u8]) -> Attributes
     ensures places { result.places ≡ outcome_places (compiled_attributes text.now) }
 {
     match read_text(text) {
-        Ok(states) => Attributes {
-            answer: Ok(states.lines),
-            places: states.places,
-        },
-        Err(rejection) => Attributes {
-            answer: Err(rejection),
-            places: DotStates::new().places,
-        },
+        Ok(states) => {
+            // A local each: an array does not go straight from a field into a struct.
+            let places = states.places;
+            Attributes {
+                answer: Ok(states.lines),
+                places,
+            }
+        }
+        Err(rejection) => {
+            let states = DotStates::new();
+            let places = states.places;
+            Attributes {
+                answer: Err(rejection),
+                places,
+            }
+        }
     }
 }

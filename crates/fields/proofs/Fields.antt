@@ -1,5 +1,6 @@
 -- Where a mark stands, and what is left of a field without its blanks.
-use Rattle.std.proofs.Common.{◌≡◌, refl, ℕ, ◌-◌, ◌≤◌, Bool, true, false, cond, List, length, take, drop, reverse, ltb, ap, sym, ◌∙◌, true≢false, unwrap_or, Option, None, Some, is_some}
+use Rattle.std.proofs.Common.{◌≡◌, refl, ℕ, ◌-◌, ◌≤◌, Bool, true, false, cond, List, length, take, drop, reverse, ltb, ap, sym, ◌∙◌, true≢false}
+use Rattle.std.proofs.Common.{unwrap_or, Option, None, Some, is_some}
 use Rattle.std.specs.List.{position, position_or_len, prefix_len}
 use Rattle.std.proofs.lemmas.List.{take_rest}
 use Rattle.std.proofs.lemmas.List.Folds.{length-prefix_len}
@@ -18,7 +19,8 @@ module _ (p : ℕ → Bool) (line : List ℕ) where
   pub mark_none : position p line ≡ None → length line ≤ position_or_len p line
   mark_none = go (ltb (position_or_len p line) (length line)) refl
     where
-      go : (b : Bool) → ltb (position_or_len p line) (length line) ≡ b → cond b (Some (position_or_len p line)) None ≡ None → length line ≤ position_or_len p line
+      go : (b : Bool) → ltb (position_or_len p line) (length line) ≡ b → cond b (Some (position_or_len p line)) None ≡ None
+          → length line ≤ position_or_len p line
       go true t e = absurd (true≢false (ap is_some e))
       go false t e = ltb-false (position_or_len p line) (length line) t
 
