@@ -1,18 +1,19 @@
 -- The definitions of the words by position, as a scan by index meets them.
 use Rattle.std.specs.Prelude.{Option, None, Some}
-use Prim.Native.Nat.{ℕ, zero, suc, ◌+◌, ◌*◌, ◌-◌, ◌≤◌, ◌<◌}
+use Prim.Native.Nat.{ℕ, zero, suc, ◌+◌, ◌*◌, ◌-◌, ◌/◌, ◌≤◌, ◌<◌}
 use mathlib.Core.Path.{◌≡◌, refl, sym, ap, ◌∙◌}
-use mathlib.Core.List.{List, [], ◌∷◌, ◌++◌}
+use mathlib.Core.List.{List, [], ◌∷◌, ◌++◌, map}
+use Rattle.std.specs.Simd.{first_chunks}
 use native.Mathlib.Numerals.{add-one}
 use native.Mathlib.Omega.{arith}
-use lib.ListN.{length, get_or, take, drop, take-append-drop, get_or-eq_default}
-use lib.Seq.{append_snoc, length-take-le}
+use lib.ListN.{length, get_or, take, drop, take-append-drop, drop_of_length-le, get_or-eq_default}
+use lib.Seq.{append_snoc, drop-cons, length-take-le}
 use borrow.Author.Tests.{eq-eqb, ne_eqb}
 use Rattle.basics.proofs.Loops.{two_more}
 use Rattle.definitions.specs.declared.Meaning.{Meaning}
 use Rattle.definitions.specs.declared.Definition.{Definition}
 use Rattle.definitions.specs.Definitions.{find}
-use Rattle.pairs.specs.Words.{pair_words, charset_of, meaning_of, definition_of, definitions}
+use Rattle.pairs.specs.Words.{pair_words, charset_of, meaning_of, definition_of, definition_row, definitions}
 
 pub definitions_length : (n : ℕ) (ws : List ℕ) → 2 * n ≤ length ws → length (definitions n ws) ≡ n
 unfolding definitions
@@ -20,6 +21,23 @@ definitions_length zero ws h = refl
 definitions_length (suc n) [] h = absurd (omega arith)
 definitions_length (suc n) (c ∷ []) h = absurd (omega arith)
 definitions_length (suc n) (c ∷ w ∷ ws) h = ap suc (definitions_length n ws (omega arith))
+
+-- the first n pairs as rows
+rows_of : (n : ℕ) (ws : List ℕ) → 2 * n ≤ length ws → map definition_row (first_chunks 2 n (take (2 * n) ws)) ≡ definitions n ws
+unfolding definitions
+rows_of zero ws h = refl
+rows_of (suc n) [] h = absurd (omega arith)
+rows_of (suc n) (c ∷ []) h = absurd (omega arith)
+rows_of (suc n) (c ∷ w ∷ ws) h =
+    let e : 2 * suc n ≡ suc (suc (2 * n)) = omega arith in
+    rw e (ap (λ (l : List Definition). definition_of c w ∷ l) (rows_of n ws (omega arith)))
+
+pub rows_lem : (n : ℕ) (ws : List ℕ) → 2 * n ≤ length ws
+    → map definition_row (first_chunks 2 (length (take (2 * n) ws) / 2) (take (2 * n) ws)) ≡ definitions n ws
+rows_lem n ws h =
+    let l : length (take (2 * n) ws) ≡ 2 * n = length-take-le (2 * n) ws h in
+    let e : length (take (2 * n) ws) / 2 ≡ n = omega (arith, l) in
+    rw e (rows_of n ws h)
 
 -- a pair behind n pairs is one definition more, whatever else follows
 pub definitions_two : (n : ℕ) (xs us ws : List ℕ) (a b : ℕ) → length xs ≡ 2 * n
@@ -69,19 +87,27 @@ split n ws (suc i) h l =
     split n ws i (omega arith) l
     ∙ rw (rest_more n i ws (omega arith) l, ← add-one i, definitions_more i ws (omega arith)) (sym (append_snoc (definitions i ws) d (rest n (i + 1) ws)))
 
--- a scan for c that has come to pair i of n; x is what it is to answer
-module _ (x : Option Meaning) (n i : ℕ) (ws : List ℕ) (c : ℕ) (inv : x ≡ find (rest n i ws) c) where
-  pub scan_here : {m : Meaning} → i < n → 2 * n ≤ length ws → get_or ws (2 * i) 0 ≡ c → m ≡ meaning_of (get_or ws (2 * i + 1) 0) → Some m ≡ x
-  unfolding find
-  scan_here h l e p = sym (inv ∙ rw (rest_more n i ws h l, eq-eqb _ c e, p))
+-- what is left of rows from row i on
+pub row_next : (rows : List (List ℕ)) (i : ℕ) → i < length rows
+    → map definition_row (drop i rows) ≡ definition_row (get_or rows i []) ∷ map definition_row (drop (i + 1) rows)
+row_next rows i h = rw (add-one i, drop-cons rows i [] h)
 
-  pub scan_later : i < n → 2 * n ≤ length ws → (get_or ws (2 * i) 0 ≡ c → ⊥) → x ≡ find (rest n (i + 1) ws) c
-  unfolding find
-  scan_later h l e = inv ∙ rw (rest_more n i ws h l, ne_eqb _ c e)
+pub row_none : (rows : List (List ℕ)) (i : ℕ) → length rows ≤ i → map definition_row (drop i rows) ≡ []
+row_none rows i h = rw (drop_of_length-le rows h)
 
-  pub scan_none : n ≤ i → None ≡ x
+-- a scan for c that has come to row i; x is what it is to answer
+module _ (x : Option Meaning) (rows : List (List ℕ)) (i c : ℕ) (inv : x ≡ find (map definition_row (drop i rows)) c) where
+  pub scan_here : {m : Meaning} → i < length rows → get_or (get_or rows i []) 0 0 ≡ c → m ≡ meaning_of (get_or (get_or rows i []) 1 0) → Some m ≡ x
   unfolding find
-  scan_none h = sym (inv ∙ rw (rest_none n i ws h))
+  scan_here h e p = sym (inv ∙ rw (row_next rows i h, eq-eqb _ c e, p))
+
+  pub scan_later : i < length rows → (get_or (get_or rows i []) 0 0 ≡ c → ⊥) → x ≡ find (map definition_row (drop (i + 1) rows)) c
+  unfolding find
+  scan_later h e = inv ∙ rw (row_next rows i h, ne_eqb _ c e)
+
+  pub scan_none : length rows ≤ i → None ≡ x
+  unfolding find
+  scan_none h = sym (inv ∙ rw (row_none rows i h))
 
 -- so few words say no set
 pub few_words : (ws : List ℕ) → length ws ≤ pair_words → 0 ≡ charset_of ws

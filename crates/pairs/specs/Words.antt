@@ -64,6 +64,10 @@ meaning_of w =
 abbrev pub definition_of : ℕ → ℕ → Definition
 definition_of c w = record { character = c; meaning = meaning_of w }
 
+-- the same of a row of two words
+abbrev pub definition_row : List ℕ → Definition
+definition_row row = definition_of (get_or row 0 0) (get_or row 1 0)
+
 -- the definitions of the first n pairs
 unfoldable pub definitions : ℕ → List ℕ → List Definition
 definitions zero ws = []

@@ -2,11 +2,11 @@
 // refuses a definition.
 #![tactic(auto)]
 
-ghost use Rattle.std.specs.Prelude.{◌≡◌, List, ◌*◌, ◌≤◌, length};
+ghost use Rattle.std.specs.Prelude.{◌≡◌, List, ◌*◌, ◌≤◌, length, map};
 ghost use Rattle.definitions.specs.declared.Definition.{Definition};
 ghost use Rattle.definitions.specs.Definitions.{find, found_in, table, explicit};
 ghost use Rattle.definitions.specs.Effects.{closes_loop, verdict_of};
-ghost use Rattle.pairs.specs.Words.{meaning_of, definitions};
+ghost use Rattle.pairs.specs.Words.{meaning_of, definition_row, definitions};
 ghost use Rattle.pairs.specs.Internal.{walk_with_cell};
 
 use basics::Refusal;
@@ -45,13 +45,23 @@ pub struct Pairs<'a> {
     ghost fits: { 2 * count ≤ length words.now },
 }
 
+impl Pairs<'_> {
+    // The pairs as rows of two words.
+    #[tactic(auto, using(crate::proofs::Scan::rows_lem))]
+    pub fn rows(&self) -> &[[u32; 2]]
+        ensures { map definition_row result.now ≡ definitions self.now.count self.now.words.now }
+    {
+        self.words[..2 * self.count].as_chunks::<2>().0
+    }
+}
+
 impl Finder for Pairs<'_> {
     ghost definitions = { λ p. definitions p.count p.words.now };
 
     fn find(&self, character: u32) -> Option<Meaning> {
-        for i in 0..self.count {
-            if self.words[2 * i] == character {
-                return Some(meaning_of(self.words[2 * i + 1]));
+        for row in self.rows() {
+            if row[0] == character {
+                return Some(meaning_of(row[1]));
             }
         }
         None

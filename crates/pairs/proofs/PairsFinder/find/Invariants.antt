@@ -1,9 +1,9 @@
-use Rattle.std.proofs.Common.{◌≡◌}
+use Rattle.std.proofs.Common.{◌≡◌, map, drop}
 use Rattle.definitions.specs.Definitions.{find}
-use Rattle.pairs.specs.Words.{definitions}
-use Rattle.pairs.proofs.Scan.{rest}
+use Rattle.pairs.specs.Words.{definition_row, definitions}
 use Rattle.pairs.proofs.PairsFinder.find.Given as goal
 
--- No pair before i has the character.
-abbrev pub invariant-loop-i : goal.invariant-loop-i
-invariant-loop-i l = find (definitions l.self.count l.self.words.now) l.character ≡ find (rest l.self.count l.i l.self.words.now) l.character
+-- No row before has the character.
+abbrev pub invariant-loop-row : goal.invariant-loop-row
+invariant-loop-row l =
+    find (definitions l.self.count l.self.words.now) l.character ≡ find (map definition_row (drop l.row-index l.row-items)) l.character
