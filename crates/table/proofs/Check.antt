@@ -2,7 +2,7 @@
 use Prim.Native.Nat.{ℕ, ◌+◌, ◌*◌, ◌≤◌, ◌<◌}
 use mathlib.Core.Path.{◌≡◌, refl, sym, ap, ◌∙◌}
 use mathlib.Core.Bool.{Bool, true, false, not, ◌&&◌}
-use mathlib.Core.List.{List, [], ◌∷◌, ◌++◌}
+use mathlib.Core.List.{List, [], ◌∷◌, ◌++◌, map}
 use native.Mathlib.Omega.{arith}
 use lib.ListN.{length, get_or, take, drop, drop_of_length-le}
 use lib.Seq.{length-take-le}
@@ -18,9 +18,9 @@ use Rattle.definitions.specs.declared.Definition.{Definition}
 use Rattle.definitions.specs.Definitions.{find}
 use Rattle.definitions.specs.Effects.{definition_limit, is_defined, closes_loop}
 use Rattle.std.specs.Prelude.{Result, Ok, Err}
-use Rattle.pairs.specs.Words.{pair_words, table_words, charset_of, meaning_of, definition_of, definitions}
+use Rattle.pairs.specs.Words.{pair_words, table_words, charset_of, meaning_of, definition_of, definition_row, definitions}
 use Rattle.table.specs.Check.{is_zero_pair, is_sound_pair, zero_from, check_from, is_sound_end, and_end, check_of}
-use Rattle.pairs.proofs.Scan.{definitions_length, definitions_more, rest, scan_here, scan_none}
+use Rattle.pairs.proofs.Scan.{definitions_length, definitions_more, scan_here, scan_none}
 
 module _ (ws : List ℕ) (k : ℕ) where
   abbrev character : ℕ
@@ -106,15 +106,15 @@ module _ (ws : List ℕ) (k : ℕ) (inv : check_from (definitions k ws) (drop (2
 
 -- the pair k by itself is sound: a pair before it has its character, it closes a loop, or the check goes on
 module _ (next : Result ℕ ℕ) (ws : List ℕ) (k c w : ℕ) (inv : if_fresh (definitions k ws) (definition_of c w) k next ≡ check_from [] ws)
-    (j : ℕ) (scan : find (definitions k ws) c ≡ find (rest k j ws) c) where
-  pub check_repeat : j < k → 2 * k ≤ length ws → get_or ws (2 * j) 0 ≡ c → Err k ≡ check_from [] ws
+    (rows : List (List ℕ)) (j : ℕ) (scan : find (definitions k ws) c ≡ find (map definition_row (drop j rows)) c) where
+  pub check_repeat : j < length rows → get_or (get_or rows j []) 0 0 ≡ c → Err k ≡ check_from [] ws
   unfolding if_fresh
-  check_repeat h l e = rw (← scan_here _ k j ws c scan h l e refl) at inv
+  check_repeat h e = rw (← scan_here _ rows j c scan h e refl) at inv
 
-  pub check_none : {m : Meaning} {v : Result ℕ ℕ} → k ≤ j → m ≡ meaning_of w
+  pub check_none : {m : Meaning} {v : Result ℕ ℕ} → length rows ≤ j → m ≡ meaning_of w
       → v ≡ pick (closes_loop (definitions k ws) (record { character = c; meaning = m })) (Err k) next → v ≡ check_from [] ws
   unfolding if_fresh
-  check_none none says e = (rw says at e) ∙ rw (← scan_none _ k j ws c scan none) at inv
+  check_none none says e = (rw says at e) ∙ rw (← scan_none _ rows j c scan none) at inv
 
 -- ---- the whole table
 

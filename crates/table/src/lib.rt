@@ -139,13 +139,13 @@ fn check_words(words: &[u32]) -> Result<usize, usize>
         if !is_sound_pair(character, w) {
             return Err(k);
         }
-        for j in 0..k {
-            if words[2 * j] == character {
+        let so_far = Pairs { words, count: k };
+        for row in so_far.rows() {
+            if row[0] == character {
                 break 'pairs;
             }
         }
         let meaning = meaning_of(w);
-        let so_far = Pairs { words, count: k };
         if closes_loop(&so_far, Definition { character, meaning }) {
             return Err(k);
         }

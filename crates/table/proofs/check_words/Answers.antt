@@ -2,10 +2,10 @@ use borrow.Author.Rules.{rules}
 use native.Mathlib.Omega.{arith}
 use Rattle.basics.proofs.Tests.{chosen}
 use borrow.Author.Tests.{not-true, not-false}
-use Rattle.pairs.proofs.Scan.{rest_all, scan_later}
+use Rattle.pairs.proofs.Scan.{scan_later}
 use Rattle.table.proofs.Check.{check_start, check_next, check_repeat, check_none, check_over}
 use Rattle.table.proofs.check_words.Goals as goal
-use Rattle.table.proofs.check_words.Goals.{else-pairs-test, then-pairs-test+else-is_zero_pair+else-not-is_sound_pair+then-loop-j-test+then-words-j}
+use Rattle.table.proofs.check_words.Goals.{else-pairs-test, then-pairs-test+else-is_zero_pair+else-not-is_sound_pair+then-loop-row-test+then-row-character}
 
 pub pairs-init : goal.pairs-init
 pairs-init c = (search rules, search rules, search check_start)
@@ -17,13 +17,13 @@ pub returns-then-not-is_sound_pair : goal.returns-then-not-is_sound_pair
 returns-then-not-is_sound_pair c = search (check_next, chosen, not-true)
 
 -- the outer invariant is named: `search` takes too many steps to find it here
-pub loop-j-init : goal.loop-j-init
-loop-j-init c =
+pub loop-row-init : goal.loop-row-init
+loop-row-init c =
     let l = c.pairs in
-    (search rules, rw rest_all, check_next _ _ l.invariant.2 l.invariant.1 (omega arith) (search (chosen, not-false)))
+    (rw c.rows-row-items.ensures, check_next _ _ l.invariant.2 l.invariant.1 (omega arith) (search (chosen, not-false)))
 
-pub loop-j-preserved : goal.loop-j-preserved
-loop-j-preserved c = (search rules, search scan_later, search rules)
+pub loop-row-preserved : goal.loop-row-preserved
+loop-row-preserved c = (search scan_later, search rules)
 
 pub returns-then-closes_loop : goal.returns-then-closes_loop
 returns-then-closes_loop c = search (check_none, chosen)
@@ -35,7 +35,7 @@ pub returns-then-k-lt-DEFINITION_LIMIT : goal.returns-then-k-lt-DEFINITION_LIMIT
 returns-then-k-lt-DEFINITION_LIMIT c =
     elim c.pairs-test.branch [
       | else-pairs-test w ↦ absurd (omega arith)
-      | then-pairs-test+else-is_zero_pair+else-not-is_sound_pair+then-loop-j-test+then-words-j w ↦ search check_repeat
+      | then-pairs-test+else-is_zero_pair+else-not-is_sound_pair+then-loop-row-test+then-row-character w ↦ search check_repeat
     ]
 
 pub returns-else-k-lt-DEFINITION_LIMIT : goal.returns-else-k-lt-DEFINITION_LIMIT
