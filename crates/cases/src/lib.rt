@@ -2,7 +2,8 @@
 // about. Behind the call stands the local character set, ISO 8859-1 where none is named.
 #![tactic(auto)]
 
-ghost use Rattle.std.specs.Prelude.{◌≤◌};
+ghost use Rattle.std.specs.Prelude.{◌≡◌, ◌≤◌};
+ghost use Rattle.fields.specs.Fields.{first_field, behind_mark};
 
 use answers::{Cells, Text};
 use basics::Refusal;
@@ -347,7 +348,10 @@ pub struct Case<'a> {
 }
 
 impl<'a> Case<'a> {
-    pub fn of(line: &'a [u8]) -> Case<'a> {
+    // The fourth field, between marks `|`, which are the byte 124, is the answer that is expected.
+    pub fn of(line: &'a [u8]) -> Case<'a>
+        ensures { result.expected.now ≡ first_field 124 (behind_mark 124 (behind_mark 124 (behind_mark 124 line.now))) }
+    {
         let (call, behind) = fields::split(line, b'|');
         let (text, behind) = fields::split(behind, b'|');
         let (question, behind) = fields::split(behind, b'|');

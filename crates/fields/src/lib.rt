@@ -1,5 +1,5 @@
-// The fields of a case, which a mark separates, and what they stand for: a text, a number, several numbers. What texts
-// and several numbers hold, the expected answers of the cases say: of these no clause says more than its callers need.
+// The fields of a case, which a mark separates, and what they stand for: a text, a number, several numbers. Of texts
+// and of several numbers no clause says more than its callers need; the expected answers of the cases say the rest.
 #![tactic(auto)]
 
 ghost use Rattle.std.specs.Prelude.{◌≡◌, ◌≤◌, ◌<◌, length, take, IfSome};
