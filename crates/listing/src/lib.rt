@@ -87,8 +87,8 @@ fn listing_length(pairs: Pairs<'_>) -> usize
     ensures { result ≡ length (listing (definitions pairs.entry.count pairs.entry.words.now)) }
 {
     let mut sum = 0;
-    for i in 0..pairs.count {
-        sum += line_length(pairs::meaning_of(pairs.words[2 * i + 1]));
+    for row in pairs.rows() {
+        sum += line_length(pairs::meaning_of(row[1]));
     }
     sum
 }
@@ -99,9 +99,9 @@ fn put_listing(pairs: Pairs<'_>, buffer: &mut [u8])
     ensures { buffer.new ≡ over (listing (definitions pairs.entry.count pairs.entry.words.now)) buffer.old }
 {
     let mut at = 0;
-    for i in 0..pairs.count {
-        let character = pairs.words[2 * i];
-        let meaning = pairs::meaning_of(pairs.words[2 * i + 1]);
+    for row in pairs.rows() {
+        let character = row[0];
+        let meaning = pairs::meaning_of(row[1]);
         at = put_line(buffer, at, Definition { character, meaning });
     }
 }

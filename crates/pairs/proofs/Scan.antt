@@ -32,12 +32,12 @@ rows_of (suc n) (c ∷ w ∷ ws) h =
     let e : 2 * suc n ≡ suc (suc (2 * n)) = omega arith in
     rw e (ap (λ (l : List Definition). definition_of c w ∷ l) (rows_of n ws (omega arith)))
 
+pub rows_length : (n : ℕ) (ws : List ℕ) → 2 * n ≤ length ws → length (take (2 * n) ws) / 2 ≡ n
+rows_length n ws h = omega (arith, length-take-le (2 * n) ws h)
+
 pub rows_lem : (n : ℕ) (ws : List ℕ) → 2 * n ≤ length ws
     → map definition_row (first_chunks 2 (length (take (2 * n) ws) / 2) (take (2 * n) ws)) ≡ definitions n ws
-rows_lem n ws h =
-    let l : length (take (2 * n) ws) ≡ 2 * n = length-take-le (2 * n) ws h in
-    let e : length (take (2 * n) ws) / 2 ≡ n = omega (arith, l) in
-    rw e (rows_of n ws h)
+rows_lem n ws h = rw (rows_length n ws h) (rows_of n ws h)
 
 -- a pair behind n pairs is one definition more, whatever else follows
 pub definitions_two : (n : ℕ) (xs us ws : List ℕ) (a b : ℕ) → length xs ≡ 2 * n

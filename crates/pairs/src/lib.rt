@@ -47,9 +47,10 @@ pub struct Pairs<'a> {
 
 impl Pairs<'_> {
     // The pairs as rows of two words.
-    #[tactic(auto, using(crate::proofs::Scan::rows_lem))]
+    #[tactic(auto, using(crate::proofs::Scan::rows_lem, crate::proofs::Scan::rows_length))]
     pub fn rows(&self) -> &[[u32; 2]]
-        ensures { map definition_row result.now ≡ definitions self.now.count self.now.words.now }
+        ensures value { map definition_row result.now ≡ definitions self.now.count self.now.words.now }
+        ensures count { length result.now ≡ self.now.count }
     {
         self.words[..2 * self.count].as_chunks::<2>().0
     }

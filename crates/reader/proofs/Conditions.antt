@@ -1,10 +1,10 @@
 -- When a condition holds: `ifGlyph` by the end of the alias walk, `ifCell` by a scan of the definitions.
-use Prim.Native.Nat.{ℕ, ◌+◌, ◌*◌, ◌%◌, ◌≤◌, ◌<◌}
+use Prim.Native.Nat.{ℕ, ◌+◌, ◌%◌, ◌≤◌, ◌<◌}
 use mathlib.Core.Path.{◌≡◌, refl, sym, ◌∙◌}
 use mathlib.Core.Bool.{Bool, true, false, ◌||◌}
-use mathlib.Core.List.{List, [], ◌∷◌}
+use mathlib.Core.List.{List, [], ◌∷◌, map}
 use native.Mathlib.Omega.{arith}
-use lib.ListN.{length, get_or}
+use lib.ListN.{length, get_or, drop}
 use lib.Dec.{eqb}
 use borrow.Author.Tests.{ne_eqb}
 use Rattle.basics.specs.Choice.{pick}
@@ -15,9 +15,9 @@ use Rattle.definitions.specs.declared.Meaning.{Meaning}
 use Rattle.definitions.specs.declared.Definition.{Definition}
 use Rattle.definitions.specs.Definitions.{table, types, typed_in}
 use Rattle.pairs.specs.declared.Walked.{Walked}
-use Rattle.pairs.specs.Words.{meaning_of}
+use Rattle.pairs.specs.Words.{meaning_of, definition_row}
 use Rattle.pairs.specs.Internal.{walk_with_cell}
-use Rattle.pairs.proofs.Scan.{rest, rest_none, rest_more}
+use Rattle.pairs.proofs.Scan.{row_next, row_none}
 use Rattle.rules.specs.declared.Answer.{Answer}
 use Rattle.rules.specs.Rules.{choose, lookup}
 use Rattle.rules.proofs.Choices.{Chosen, choose_chosen, by_walk}
@@ -55,17 +55,17 @@ module _ (charset : ℕ) (ds : List Definition) (c : ℕ) (braille : Bool) (e : 
     glyph_end v h =
         h ∙ sym (rw (← e, q, ← local, by_walk (table ds) l w from) (glyph_rule (is_private c) (eqb w.links 0) w.cell _ _ _ _ w.links))
 
--- a scan that has come to pair i of n; x is what it is to answer
-module _ (x : Bool) (n i : ℕ) (ws : List ℕ) (cell : ℕ) (inv : x ≡ is_some (typed_in (rest n i ws) cell)) where
-  module _ (h : i < n) (l : 2 * n ≤ length ws) (m : Meaning) (p : m ≡ meaning_of (get_or ws (2 * i + 1) 0)) (t : Bool) (q : t ≡ types m cell) where
+-- a scan that has come to row i; x is what it is to answer
+module _ (x : Bool) (rows : List (List ℕ)) (i cell : ℕ) (inv : x ≡ is_some (typed_in (map definition_row (drop i rows)) cell)) where
+  module _ (h : i < length rows) (m : Meaning) (p : m ≡ meaning_of (get_or (get_or rows i []) 1 0)) (t : Bool) (q : t ≡ types m cell) where
     pub cell_here : t ≡ true → true ≡ x
     unfolding typed_in
-    cell_here r = sym (inv ∙ rw (rest_more n i ws h l, ← p, ← q, r))
+    cell_here r = sym (inv ∙ rw (row_next rows i h, ← p, ← q, r))
 
-    pub cell_later : t ≡ false → x ≡ is_some (typed_in (rest n (i + 1) ws) cell)
+    pub cell_later : t ≡ false → x ≡ is_some (typed_in (map definition_row (drop (i + 1) rows)) cell)
     unfolding typed_in
-    cell_later r = inv ∙ rw (rest_more n i ws h l, ← p, ← q, r)
+    cell_later r = inv ∙ rw (row_next rows i h, ← p, ← q, r)
 
-  pub cell_none : n ≤ i → false ≡ x
+  pub cell_none : length rows ≤ i → false ≡ x
   unfolding typed_in
-  cell_none h = sym (inv ∙ rw (rest_none n i ws h))
+  cell_none h = sym (inv ∙ rw (row_none rows i h))

@@ -71,8 +71,8 @@ impl Context<'_> {
     fn has_cell(&self, cell: u8) -> bool
         ensures { result ≡ has_cell (known self.now.pairs) cell }
     {
-        for i in 0..self.pairs.count {
-            if definitions::types_cell(pairs::meaning_of(self.pairs.words[2 * i + 1]), cell) {
+        for row in self.pairs.rows() {
+            if definitions::types_cell(pairs::meaning_of(row[1]), cell) {
                 return true;
             }
         }

@@ -1,50 +1,47 @@
 -- What the scan of the words fills.
-use Rattle.std.specs.Prelude.{ℕ, ◌+◌, ◌*◌, ◌<◌, ◌≡◌, true, false, List, Option, None, Some, is_some, length, get_or, set, replicate}
+use Rattle.std.specs.Prelude.{ℕ, ◌+◌, ◌≤◌, ◌<◌, ◌≡◌, true, false, List, [], Option, None, Some, is_some, length, get_or, set, map, drop}
 use Rattle.std.proofs.Common.{refl}
-use mathlib.Core.Logic.{◌⊎◌, inl, inr}
 use lib.Seq.{set-get_or}
 use Rattle.definitions.specs.declared.Meaning.{Meaning}
 use Rattle.definitions.specs.declared.Meaning.TheVariants.{Typed, Shown, Alias}
-use Rattle.pairs.specs.Words.{meaning_of, definition_of, definitions}
-use Rattle.pairs.proofs.Scan.{definitions_more}
-use Rattle.typing.specs.Typing.{nothing, with_meaning, filled_from, entries_of}
-use Rattle.typing.proofs.TypedCells.{entries_more}
+use Rattle.pairs.specs.Words.{meaning_of, definition_row}
+use Rattle.pairs.proofs.Scan.{row_next, row_none}
+use Rattle.typing.specs.Typing.{nothing, kept_in, with_meaning, filled_from}
 
--- what a `char` definition of c leaves of an entry table es: its cell typed nothing, or stays
-abbrev Filled : List (Option ℕ) → ℕ → ℕ → List (Option ℕ) → Type 0
-Filled es c dots more =
-    ((is_some (get_or es dots nothing) ≡ false) × (more ≡ set es dots (Some c)))
-    ⊎ ((is_some (get_or es dots nothing) ≡ true) × (more ≡ es))
+-- a cell that nothing types yet
+cell_free : (typed : Option ℕ) (c : ℕ) → is_some typed ≡ false → kept_in typed c ≡ Some c
+cell_free None c h = refl
+cell_free (Some earlier) c h = cc
 
-filled : (es : List (Option ℕ)) (c dots : ℕ) → Filled es c dots (with_meaning es c (Typed dots))
-filled es c dots = go (get_or es dots nothing) refl
-  where
-    go : (typed : Option ℕ) → get_or es dots nothing ≡ typed → Filled es c dots (with_meaning es c (Typed dots))
-    go None e = inl (rw e, rw e)
-    go (Some earlier) e = inr (rw e, rw (e, ← e, set-get_or es dots nothing))
+-- a cell that has its character
+cell_kept : (typed : Option ℕ) (c : ℕ) → is_some typed ≡ true → kept_in typed c ≡ typed
+cell_kept None c h = cc
+cell_kept (Some earlier) c h = refl
 
--- and what any does
-abbrev Means : Meaning → List (Option ℕ) → ℕ → List (Option ℕ) → Type 0
-Means m es c more =
-    ((dots : ℕ) × (m ≡ Typed dots) × Filled es c dots more)
-    ⊎ (((dots : ℕ) × (m ≡ Shown dots) × (more ≡ es)) ⊎ ((target : ℕ) × (m ≡ Alias target) × (more ≡ es)))
+-- the entries es stand before row i; x is what all rows fill
+module _ (rows : List (List ℕ)) (i : ℕ) (es x : List (Option ℕ)) (inv : filled_from (map definition_row (drop i rows)) es ≡ x) where
+  pub scan_over : length rows ≤ i → es ≡ x
+  unfolding filled_from
+  scan_over h = rw (row_none rows i h) at inv
 
-means : (m : Meaning) (es : List (Option ℕ)) (c : ℕ) → Means m es c (with_meaning es c m)
-means (Typed dots) es c = inl (dots, refl, filled es c dots)
-means (Shown dots) es c = inr (inl (dots, refl, refl))
-means (Alias target) es c = inr (inr (target, refl, refl))
+  module _ (h : i < length rows) (m : Meaning) (p : m ≡ meaning_of (get_or (get_or rows i []) 1 0)) where
+    -- what row i makes of the entries
+    row_on : filled_from (map definition_row (drop (i + 1) rows)) (with_meaning es (get_or (get_or rows i []) 0 0) m) ≡ x
+    unfolding filled_from
+    row_on = rw p (rw (row_next rows i h) at inv)
 
--- a scan that has come to no pair
-pub scan_first : (ws : List ℕ) → entries_of (definitions 0 ws) ≡ replicate 256 nothing
-unfolding filled_from definitions
-scan_first ws = refl
+    pub scan_shown : (dots : ℕ) → m ≡ Shown dots → filled_from (map definition_row (drop (i + 1) rows)) es ≡ x
+    scan_shown dots q = rw q at row_on
 
--- a scan that has come to pair i. The first part is trivially true: it shows which terms the second is of
-pub scan_on : (ws : List ℕ) (i : ℕ) → 2 * i + 1 < length ws
-    → (entries_of (definitions (i + 1) ws) ≡ entries_of (definitions (i + 1) ws))
-    × Means (meaning_of (get_or ws (2 * i + 1) 0)) (entries_of (definitions i ws)) (get_or ws (2 * i) 0) (entries_of (definitions (i + 1) ws))
-scan_on ws i l =
-    let d = definition_of (get_or ws (2 * i) 0) (get_or ws (2 * i + 1) 0) in
-    (refl, rw (definitions_more i ws l, entries_more (definitions i ws) d) (means d.meaning (entries_of (definitions i ws)) d.character))
+    pub scan_alias : (target : ℕ) → m ≡ Alias target → filled_from (map definition_row (drop (i + 1) rows)) es ≡ x
+    scan_alias target q = rw q at row_on
 
-pub ruleset scanned = (scan_first, scan_on)
+    pub scan_typed : (dots : ℕ) → m ≡ Typed dots → is_some (get_or es dots nothing) ≡ false
+        → filled_from (map definition_row (drop (i + 1) rows)) (set es dots (Some (get_or (get_or rows i []) 0 0))) ≡ x
+    scan_typed dots q free = rw (q, cell_free (get_or es dots nothing) _ free) at row_on
+
+    pub scan_again : (dots : ℕ) → m ≡ Typed dots → is_some (get_or es dots nothing) ≡ true
+        → filled_from (map definition_row (drop (i + 1) rows)) es ≡ x
+    scan_again dots q kept = rw (q, cell_kept (get_or es dots nothing) _ kept, set-get_or es dots nothing) at row_on
+
+pub ruleset scanned = (scan_over, scan_shown, scan_alias, scan_typed, scan_again)

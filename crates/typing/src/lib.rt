@@ -24,11 +24,11 @@ fn fill_entries(pairs: Pairs<'_>) -> [Option<u32>; 256]
     ensures { result ≡ entries_of (definitions pairs.entry.count pairs.entry.words.now) }
 {
     let mut entries = [None; 256];
-    for i in 0..pairs.count {
-        if let Meaning::Typed(dots) = pairs::meaning_of(pairs.words[2 * i + 1]) {
+    for row in pairs.rows() {
+        if let Meaning::Typed(dots) = pairs::meaning_of(row[1]) {
             let at = usize::from(dots);
             if entries[at].is_none() {
-                entries[at] = Some(pairs.words[2 * i]);
+                entries[at] = Some(row[0]);
             }
         }
     }

@@ -5,10 +5,10 @@ use Rattle.listing.proofs.put_listing.Goals as goal
 pub put_line-at-requires : goal.put_line-at-requires
 put_line-at-requires c = search next_fits
 
-pub loop-i-preserved : goal.loop-i-preserved
-loop-i-preserved c =
-    let inv = c.loop-i.invariant in
-    let left = next_put _ _ _ _ _ _ inv.2 inv.1 (omega arith) c.args.pairs.fits c.meaning_of-meaning.ensures c.put_line-at.ensures in
+pub loop-row-preserved : goal.loop-row-preserved
+loop-row-preserved c =
+    let inv = c.loop-row.invariant in
+    let left = next_put _ _ _ _ _ inv.2 inv.1 (omega arith) c.meaning_of-meaning.ensures c.put_line-at.ensures in
     (search rules, left.0, left.1)
 
 pub returns : goal.returns

@@ -20,7 +20,7 @@ returns-then-not-is_sound_pair c = search (check_next, chosen, not-true)
 pub loop-row-init : goal.loop-row-init
 loop-row-init c =
     let l = c.pairs in
-    (rw c.rows-row-items.ensures, check_next _ _ l.invariant.2 l.invariant.1 (omega arith) (search (chosen, not-false)))
+    (rw c.rows-row-items.ensures.value, check_next _ _ l.invariant.2 l.invariant.1 (omega arith) (search (chosen, not-false)))
 
 pub loop-row-preserved : goal.loop-row-preserved
 loop-row-preserved c = (search scan_later, search rules)

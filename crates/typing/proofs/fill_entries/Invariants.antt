@@ -1,8 +1,9 @@
-use Rattle.std.proofs.Common.{◌≡◌}
-use Rattle.pairs.specs.Words.{definitions}
-use Rattle.typing.specs.Typing.{entries_of}
+use Rattle.std.proofs.Common.{◌≡◌, map, drop}
+use Rattle.pairs.specs.Words.{definition_row, definitions}
+use Rattle.typing.specs.Typing.{filled_from, entries_of}
 use Rattle.typing.proofs.fill_entries.Given as goal
 
--- the entries are those of the first i definitions
-abbrev pub invariant-loop-i : goal.invariant-loop-i
-invariant-loop-i l = l.entries ≡ entries_of (definitions l.i l.pairs.words.now)
+-- the rows that are left fill the entries up to those of all
+abbrev pub invariant-loop-row : goal.invariant-loop-row
+invariant-loop-row l =
+    filled_from (map definition_row (drop l.row-index l.row-items)) l.entries ≡ entries_of (definitions l.fn.pairs.count l.fn.pairs.words.now)

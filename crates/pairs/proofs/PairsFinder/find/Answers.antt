@@ -2,7 +2,7 @@ use Rattle.pairs.proofs.Scan.{scan_here, scan_later, scan_none}
 use Rattle.pairs.proofs.PairsFinder.find.Goals as goal
 
 pub loop-row-init : goal.loop-row-init
-loop-row-init c = rw c.rows-row-items.ensures
+loop-row-init c = rw c.rows-row-items.ensures.value
 
 pub returns-then-row-character : goal.returns-then-row-character
 returns-then-row-character c = search scan_here

@@ -1,17 +1,16 @@
-use Rattle.pairs.proofs.Scan.{rest_all}
 use Rattle.reader.specs.Conditions.{has_cell}
 use Rattle.reader.proofs.Conditions.{cell_here, cell_later, cell_none}
 use Rattle.reader.proofs.Context.has_cell.Goals as goal
 
-pub loop-i-init : goal.loop-i-init
+pub loop-row-init : goal.loop-row-init
 unfolding has_cell
-loop-i-init c = rw rest_all
+loop-row-init c = rw c.rows-row-items.ensures.value
 
 pub returns-then-types_cell : goal.returns-then-types_cell
 returns-then-types_cell c = search cell_here
 
-pub loop-i-preserved : goal.loop-i-preserved
-loop-i-preserved c = search cell_later
+pub loop-row-preserved : goal.loop-row-preserved
+loop-row-preserved c = search cell_later
 
 pub returns : goal.returns
 returns c = search cell_none
