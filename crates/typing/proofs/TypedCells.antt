@@ -21,11 +21,6 @@ unfolding filled_from
 filled_append [] rs es = refl
 filled_append (d ∷ ds) rs es = filled_append ds rs (with_meaning es d.character d.meaning)
 
--- the entry table of one definition more
-pub entries_more : (ds : List Definition) (d : Definition) → entries_of (ds ++ d ∷ []) ≡ with_meaning (entries_of ds) d.character d.meaning
-unfolding filled_from
-entries_more ds d = filled_append ds (d ∷ []) (replicate 256 nothing)
-
 -- ---- a typed cell stays typed
 
 -- one definition more leaves it
