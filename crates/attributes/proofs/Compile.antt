@@ -1,5 +1,5 @@
 -- One line more, and the lines of a text one after another.
-use Rattle.std.proofs.Common.{◌≡◌, sym, ℕ, ◌+◌, ◌-◌, ◌≤◌, ◌<◌, List, length, take, Option, None, Some, Result, Ok, Err, arith}
+use Rattle.std.proofs.Common.{◌≡◌, sym, ℕ, ◌+◌, ◌-◌, ◌≤◌, ◌<◌, List, length, Option, None, Some, Result, Ok, Err, arith}
 use borrow.Author.Tests.{lt-ltb}
 use Rattle.basics.specs.declared.Refusal.TheVariants.{TextTooLong, LineTooLong}
 use Rattle.lines.specs.Lines.{without_cr}
@@ -12,9 +12,8 @@ use Rattle.attributes.specs.Compile.{dot_states, read_dot_line, with_dot, with_d
 use Rattle.attributes.specs.declared.DotStates.{DotStates}
 use Rattle.attributes.specs.declared.DotLine.{DotLine}
 
--- read is what was answered of a line, x what the states after it
-module _ (f : DotStates) (line : List ℕ) (n : ℕ) (read : Result (Option DotLine) LineFault) (c : take n line ≡ without_cr line)
-    (e : read ≡ read_dot_line (take n line)) where
+-- front is a line without its CR, read what was answered of it, x what the states after it
+module _ (f : DotStates) (line front : List ℕ) (read : Result (Option DotLine) LineFault) (c : front ≡ without_cr line) (e : read ≡ read_dot_line front) where
   step_read : {x : Step DotStates} → x ≡ with_dot_line f read → x ≡ dot_step f (without_cr line)
   unfolding dot_step
   step_read h = rw (← c, ← e) h

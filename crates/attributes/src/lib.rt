@@ -297,8 +297,7 @@ impl DotStates {
         ensures states_value { step_of result ≡ dot_step self (without_cr line.now) }
         ensures lines_bound { IfOk result (λ f. f.lines ≤ self.lines + 1) }
     {
-        let n = lines::trimmed(line);
-        match read_dot_line(&line[..n])? {
+        match read_dot_line(lines::without_cr(line))? {
             None => Ok(self),
             Some(read) => self.with_dot(read),
         }

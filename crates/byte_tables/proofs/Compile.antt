@@ -20,9 +20,9 @@ use Rattle.byte_tables.specs.declared.SoFar.{SoFar}
 use Rattle.byte_tables.specs.declared.TableLine.{TableLine}
 use Rattle.byte_tables.specs.declared.TableLine.TheVariants.{Skip, Dot, Byte}
 
--- read is what was answered of a line
-module _ (charset : ℕ) (s : SoFar) (line : List ℕ) (n : ℕ) (read : Result TableLine LineFault) (c : take n line ≡ without_cr line)
-    (e : read ≡ read_table_line charset (take n line)) where
+-- front is a line without its CR, read what was answered of it
+module _ (charset : ℕ) (s : SoFar) (line front : List ℕ) (read : Result TableLine LineFault) (c : front ≡ without_cr line)
+    (e : read ≡ read_table_line charset front) where
   step_read : {x : Step SoFar} → x ≡ with_line s read → x ≡ step charset s (without_cr line)
   unfolding step
   step_read h = rw (← c, ← e) h

@@ -164,8 +164,7 @@ impl SoFar {
         ensures dots_bound { self.new.dots.lines ≤ self.old.dots.lines + 1 }
         ensures count_bound { self.new.count ≤ self.old.count + 1 }
     {
-        let n = lines::trimmed(line);
-        match read_table_line(charset, &line[..n])? {
+        match read_table_line(charset, lines::without_cr(line))? {
             TableLine::Skip => {}
             TableLine::Dot(read) => self.dots = self.dots.with_dot(read)?,
             TableLine::Byte { byte, cell, left } => {

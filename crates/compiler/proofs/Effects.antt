@@ -4,12 +4,11 @@ use mathlib.Core.Path.{◌≡◌, refl, sym}
 use mathlib.Core.Bool.{Bool, false}
 use mathlib.Core.List.{List}
 use native.Mathlib.Omega.{arith}
-use lib.ListN.{length, take}
+use lib.ListN.{length}
 use Rattle.std.specs.Prelude.{Result, Ok, Err}
 use Rattle.basics.specs.Choice.{if_ok}
 use Rattle.basics.specs.declared.Refusal.{Refusal}
 use Rattle.lines.specs.declared.LineFault.{LineFault}
-use Rattle.lines.specs.Lines.{without_cr}
 use Rattle.lines.specs.Texts.{next}
 use Rattle.blocks.specs.Blocks.{depth_limit, around_of}
 use Rattle.blocks.specs.Internal.{blocks_of, RoomFor, Changed}
@@ -142,8 +141,3 @@ module _ (ws : List ℕ) (s : State) (w : Written ws s.count) (line : List ℕ) 
           written = stored_written ws s.count w d room fits;
           beyond = stored_beyond ws s.count w d room fits;
         })
-
--- the same of a line with its CR
-pub leaves_trimmed : (old : List ℕ) (s : State) (line : List ℕ) (n : ℕ) (r : Result State LineFault) (new : List ℕ) → take n line ≡ without_cr line
-    → Leaves old s (take n line) r new → Leaves old s (without_cr line) r new
-leaves_trimmed old s line n r new e h = rw e at h

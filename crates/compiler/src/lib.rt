@@ -90,7 +90,7 @@ fn step_line(words: &mut [u32], state: State, line: &[u8]) -> Result<State, Line
     requires few { state.lines < text_limit }
     ensures { Leaves words.old state (without_cr line.now) result words.new }
 {
-    take_line(words, state, &line[..lines::trimmed(line)])
+    take_line(words, state, lines::without_cr(line))
 }
 
 // The answer after all lines: where a block is open, it is refused at the line that opened the innermost, and the words

@@ -2,14 +2,13 @@
 use Rattle.std.proofs.Common.{◌≡◌, refl, sym, ap, ◌∙◌, ℕ, suc, ◌+◌, ◌-◌, ◌≤◌, ◌<◌, List, [], ◌∷◌, Option, length, take, drop, get_or, arith}
 use Rattle.std.specs.List.{position, position_or_len}
 use Rattle.std.specs.Option.{unwrap_or}
-use Rattle.std.proofs.lemmas.List.{length-take-le}
 use borrow.Author.Tests.{eq-eqb, ne_eqb}
 use lib.Dec.{eqb}
 use Rattle.basics.proofs.Tests.{by_cases}
 use Rattle.utf8.proofs.Positions.{end_of, first_from, first_within}
 use Rattle.lines.specs.Lines.{LF, CR, without_cr}
 use Rattle.lines.specs.Texts.{column_of}
-use Rattle.lines.specs.Internal.{to_lf, LineEnd, Trimmed}
+use Rattle.lines.specs.Internal.{to_lf, LineEnd}
 
 to_lf_lem : (bs : List ℕ) → to_lf bs ≡ position_or_len (λ b. eqb b LF) bs
 unfolding to_lf
@@ -25,11 +24,6 @@ lf_first text at n r h is e = record {
   within = first_within (λ b. eqb b LF) text at n r is e h;
 }
 
-pub cr_empty : (line : List ℕ) → length line ≡ 0 → take 0 line ≡ without_cr line
-unfolding without_cr
-cr_empty [] h = refl
-cr_empty (b ∷ bs) h = absurd (omega arith)
-
 -- the last byte is the rest's last byte
 last_on : (r : List ℕ) → suc (suc (length r)) - 1 ≡ suc (suc (length r) - 1)
 last_on r = omega arith
@@ -40,24 +34,19 @@ cr_last [] q = refl
 cr_last (b ∷ []) q = rw (eq-eqb _ _ q)
 cr_last (b ∷ c ∷ r) q = rw (last_on r) (ap (λ (l : List ℕ). b ∷ l) (cr_last (c ∷ r) (rw (last_on r) at q)))
 
-pub cr_none : (line : List ℕ) → (get_or line (length line - 1) 0 ≡ CR → ⊥) → take (length line) line ≡ without_cr line
+pub cr_none : (line : List ℕ) → (get_or line (length line - 1) 0 ≡ CR → ⊥) → line ≡ without_cr line
 unfolding without_cr
 cr_none [] q = refl
 cr_none (b ∷ []) q = rw (ne_eqb _ _ q)
 cr_none (b ∷ c ∷ r) q = ap (λ (l : List ℕ). b ∷ l) (cr_none (c ∷ r) (rw (last_on r) at q))
 
-pub trimmed_last : (line : List ℕ) → get_or line (length line - 1) 0 ≡ CR → Trimmed line (length line - 1)
-trimmed_last line q = record { is = cr_last line q; within = omega arith }
+pub cr_short : (line : List ℕ) → length line < 1 → line ≡ without_cr line
+unfolding without_cr
+cr_short [] h = refl
+cr_short (b ∷ bs) h = absurd (omega arith)
 
-pub trimmed_none : (line : List ℕ) → (get_or line (length line - 1) 0 ≡ CR → ⊥) → Trimmed line (length line)
-trimmed_none line q = record { is = cr_none line q; within = omega arith }
+pub ruleset cr_cases = (cr_last, cr_none, cr_short)
 
-pub trimmed_empty : (line : List ℕ) → length line < 1 → Trimmed line (length line)
-trimmed_empty [] h = record { is = cr_empty [] refl; within = omega arith }
-trimmed_empty (b ∷ bs) h = absurd (omega arith)
-
-pub ruleset trimmed_cases = (trimmed_last, trimmed_none, trimmed_empty)
-
--- n bytes stand before the CR, m of them before the place
-pub column_at : (line : List ℕ) (n m left : ℕ) → Trimmed line n → m ≡ n - left → m + 1 ≡ column_of (without_cr line) left
-column_at line n m left t h = rw (← t.is, length-take-le n line t.within, h)
+-- front is what stands before the CR, m bytes of it before the place
+pub column_at : (line front : List ℕ) (m left : ℕ) → front ≡ without_cr line → m ≡ length front - left → m + 1 ≡ column_of (without_cr line) left
+column_at line front m left e h = rw (← e, h)

@@ -1,7 +1,7 @@
 -- What the code knows beyond the rules: positions within a text or a line, and how it says what a line leaves.
-use Rattle.std.specs.Prelude.{ℕ, ◌+◌, ◌≤◌, ◌≡◌, Bool, List, [], ◌∷◌, length, take, drop, eqb, Result, Ok, Err}
+use Rattle.std.specs.Prelude.{ℕ, ◌+◌, ◌≤◌, ◌≡◌, Bool, List, [], ◌∷◌, length, drop, eqb, Result, Ok, Err}
 use Rattle.basics.specs.Choice.{pick}
-use Rattle.lines.specs.Lines.{LF, without_cr}
+use Rattle.lines.specs.Lines.{LF}
 use Rattle.lines.specs.Words.{first_at, word_at}
 use Rattle.lines.specs.Texts.{Step, next, stop}
 use Rattle.lines.specs.declared.Word.{Word}
@@ -19,11 +19,6 @@ pub record LineEnd (text : List ℕ) (at end : ℕ) : Type 0 where
   pub is : end ≡ at + to_lf (drop at text)
   pub from : at ≤ end
   pub within : end ≤ length text
-
--- how many bytes of a line stand before its one CR
-pub record Trimmed (line : List ℕ) (n : ℕ) : Type 0 where
-  pub is : take n line ≡ without_cr line
-  pub within : n ≤ length line
 
 -- a position that a scan from `at` on answers, and the word that a search from `at` on answers
 pub record FirstAt (blank : Bool) (line : List ℕ) (at r : ℕ) : Type 0 where

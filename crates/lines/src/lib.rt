@@ -5,7 +5,7 @@ ghost use Rattle.std.specs.Prelude.{◌≡◌, ◌≤◌, length};
 ghost use Rattle.lines.specs.Lines.{without_cr};
 ghost use Rattle.lines.specs.Words.{is_blank, same_bytes, is_over};
 ghost use Rattle.lines.specs.Texts.{opening_of, column_of, rejection_of};
-ghost use Rattle.lines.specs.Internal.{LineEnd, Trimmed, NextWord};
+ghost use Rattle.lines.specs.Internal.{LineEnd, NextWord};
 
 use basics::Refusal;
 
@@ -86,15 +86,14 @@ pub fn line_end(text: &[u8], at: usize) -> usize
     at + rest.iter().position(|b| *b == b'\n').unwrap_or(rest.len())
 }
 
-// How many bytes of a line stand before its one CR. A length: a slice would have to promise that it is the front of
-// the line.
-#[tactic(auto, using(crate::proofs::Lines::trimmed_cases))]
-pub fn trimmed(line: &[u8]) -> usize
-    ensures { Trimmed line.now result }
+// A line without its one CR, if it ends in it.
+#[tactic(auto, using(crate::proofs::Lines::cr_cases))]
+pub fn without_cr(line: &[u8]) -> &[u8]
+    ensures { result.now ≡ without_cr line.now }
 {
     match line {
-        [.., b'\r'] => line.len() - 1,
-        _ => line.len(),
+        [front @ .., b'\r'] => front,
+        _ => line,
     }
 }
 
@@ -103,7 +102,7 @@ pub fn trimmed(line: &[u8]) -> usize
 pub fn column_of(line: &[u8], left: usize) -> usize
     ensures { result ≡ column_of (without_cr line.now) left }
 {
-    trimmed(line).saturating_sub(left) + 1
+    without_cr(line).len().saturating_sub(left) + 1
 }
 
 // Whether a byte is whitespace.
