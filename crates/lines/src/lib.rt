@@ -132,7 +132,7 @@ pub fn next_word(line: &[u8], at: usize) -> Word
 }
 
 // Whether two slices hold the same bytes. Readers ask it of each word of the language, as the definitions do: a `match`
-// on byte strings would have to be shown equal to each of these anew.
+// on byte strings asks for a proof for each byte that may differ, and `==` for `.as_slice()` behind each word.
 #[tactic(auto, using(crate::proofs::Words::same_lem))]
 pub fn same_bytes(a: &[u8], b: &[u8]) -> bool
     ensures { result ≡ same_bytes a.now b.now }
