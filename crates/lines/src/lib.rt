@@ -98,7 +98,6 @@ pub fn without_cr(line: &[u8]) -> &[u8]
 }
 
 // The column of a place `left` bytes before the end of a line, whose one CR is not counted.
-#[tactic(auto, using(crate::proofs::Lines::column_at))]
 pub fn column_of(line: &[u8], left: usize) -> usize
     ensures { result ≡ column_of (without_cr line.now) left }
 {
