@@ -1,6 +1,5 @@
 use Rattle.std.proofs.Common.{sym, rules, arith, ap, length, inl}
 use Rattle.lines.proofs.Texts.{walk_short, walk_refused, walk_on, walk_end, refused_as}
-use Rattle.attributes.specs.Compile.{dot_step}
 use Rattle.attributes.proofs.Compile.{long_text, come_first}
 use Rattle.attributes.proofs.read_text.Goals as goal
 
