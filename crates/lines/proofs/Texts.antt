@@ -153,21 +153,14 @@ module _ (text : List ℕ) (it e : Enumerate TextLines) (ls : TextLines) (is : i
   walk_first step s short = rw (le-ltb _ _ short, is, source, count, all)
 
 module _ {S : Type 0} (step : S → List ℕ → Step S) (whole : Outcome S) (it : Enumerate TextLines) (s : S) (here : Gives step whole it s) where
-  pub walk_end : lines_left (enumerate_source it) ≡ [] → whole ≡ accepted s
-  unfolding run_lines
-  walk_end q = here ∙ rw q
-
   -- the next line, the i-th from 0 on; o is what was answered of it
-  module _ (line : Bor (List ℕ)) (i : ℕ) (on : Enumerate TextLines)
-      (gives : enumerate_steps (YieldsFirstRef lines_left) it (Some (i, line)) on)
+  module _ (line : Bor (List ℕ)) (i : ℕ) (on : Enumerate TextLines) (gives : enumerate_steps (YieldsFirstRef lines_left) it (Some (i, line)) on)
       (o : Result S LineFault) (does : step_of o ≡ step s (without_cr line.now)) where
     pub walk_refused : (fault : LineFault) → o ≡ Err fault → whole ≡ outcome_of (rejection_of fault line.now (i + 1))
-    unfolding run_lines
-    walk_refused fault e = here ∙ rw (gives.0, gives.1, ← does, e)
+    walk_refused fault e = rw gives.1 (line_refused step whole _ _ s here line.now _ gives.0 o does fault e)
 
     pub walk_on : (s' : S) → o ≡ Ok s' → Gives step whole on s'
-    unfolding run_lines
-    walk_on s' e = here ∙ rw (gives.0, gives.2, ← does, e)
+    walk_on s' e = rw gives.2 (line_read step whole _ _ s here line.now _ gives.0 o does s' e)
 
 -- a text that is too long, of which no line is read
 module _ {S : Type 0} (step : S → List ℕ → Step S) (s : S) (text : List ℕ) where
