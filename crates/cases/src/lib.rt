@@ -170,18 +170,20 @@ impl Kind {
             b"row" => Kind::Row,
             b"edition" => Kind::Edition,
             b"report" => Kind::Report,
+            b"lent" => Kind::Table(Source::Lent, Call::Show),
+            b"short" => Kind::Table(Source::Short, Call::Show),
+            b"beyond" => Kind::Table(Source::Beyond, Call::Show),
             _ => {
-                let (front, behind) = fields::split(word, b'_');
-                let source = match front {
-                    b"lent" => Source::Lent,
-                    b"short" => Source::Short,
-                    b"beyond" => Source::Beyond,
+                let (source, name) = match word {
+                    [b'l', b'e', b'n', b't', b'_', name @ ..] => (Source::Lent, name),
+                    [b's', b'h', b'o', b'r', b't', b'_', name @ ..] => (Source::Short, name),
+                    [b'b', b'e', b'y', b'o', b'n', b'd', b'_', name @ ..] => (Source::Beyond, name),
                     _ => return Some(Kind::Table(Source::Compiled, Call::named(word)?)),
                 };
-                match behind {
+                match Call::named(name)? {
                     // A lookup is not named there.
-                    [] => Kind::Table(source, Call::Show),
-                    name => Kind::Table(source, Call::named(name)?),
+                    Call::Show => return None,
+                    call => Kind::Table(source, call),
                 }
             }
         })
