@@ -1,5 +1,6 @@
 // Runs a case: a line of five fields that says a call, a text, a question, the answer that is expected and what it is
-// about. Behind the call stands the local character set, ISO 8859-1 where none is named.
+// about. Behind the call stands the local character set, ISO 8859-1 where none is named. It is a number, as in
+// `scalars`: callers name any.
 #![tactic(auto)]
 
 ghost use Rattle.std.specs.Prelude.{◌≡◌, ◌≤◌};
@@ -113,6 +114,7 @@ impl Call {
     // What a call answers of these words. One `match`, in which each call takes what it needs of them.
     fn answer(self, words: &[u32], question: &[u8]) -> Text {
         let n = fields::number(question);
+        // `as`, here and below: Rust has no `From` from `u32` to `u8` or `usize`; the remainder that is narrowed fits.
         match self {
             Call::Show => replies::looked_text(lookup::look_up(words, n)),
             Call::Type => replies::type_text(words, (n % 256) as u8),

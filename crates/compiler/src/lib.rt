@@ -1,4 +1,5 @@
 // Compiling a text table: what a line does, and the compile call. Words and a count stand for the definitions so far.
+// A local character set is a number, as in `scalars`: callers name any.
 #![tactic(auto)]
 
 ghost use Rattle.std.specs.Prelude.{◌≡◌, ◌≤◌, ◌<◌, length};

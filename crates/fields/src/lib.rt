@@ -74,6 +74,7 @@ pub fn number(digits: &[u8]) -> u32
 fn first_byte(field: &[u8]) -> Option<(u8, &[u8])>
     ensures { IfSome result (λ found. length found.1.now < length field.now) }
 {
+    // `as`, here and below: Rust has no `From` from `u32` to `u8` or `usize`; the remainder that is narrowed fits.
     match field {
         [] => None,
         [b'%', rest @ ..] => {
