@@ -2,11 +2,14 @@
 use Rattle.std.proofs.Common.{◌≡◌, sym, ℕ, ◌+◌, ◌-◌, ◌≤◌, ◌<◌, List, length, Option, None, Some, Result, Ok, Err, arith}
 use borrow.Author.Tests.{lt-ltb}
 use Rattle.basics.specs.declared.Refusal.TheVariants.{TextTooLong, LineTooLong}
-use Rattle.lines.specs.Lines.{without_cr}
+use Rattle.lines.specs.Lines.{lines_of, without_cr}
 use Rattle.lines.specs.Texts.{text_limit, line_limit, opening_of, Step, next, stop, rejected, outcome_column}
-use Rattle.lines.specs.Internal.{step_of}
+use Rattle.lines.specs.Internal.{step_of, lines_left}
 use Rattle.lines.specs.declared.LineFault.{LineFault}
-use Rattle.lines.proofs.Texts.{Reached, text_first, text_long, run_column}
+use Rattle.std.specs.Iterator.Adapters.{enumerate_source, enumerate_count}
+use Rattle.std.specs.declared.iter.Enumerate.{Enumerate}
+use Rattle.lines.specs.declared.TextLines.{TextLines}
+use Rattle.lines.proofs.Texts.{Gives, left_count, walk_few, walk_first, text_long, run_column}
 use Rattle.attributes.specs.Cells.{all_unnamed}
 use Rattle.attributes.specs.Compile.{dot_states, read_dot_line, with_dot, with_dot_line, dot_step, compiled_attributes}
 use Rattle.attributes.specs.declared.DotStates.{DotStates}
@@ -34,13 +37,12 @@ pub long_text : (text : List ℕ) → text_limit < length text → rejected Text
 unfolding compiled_attributes
 long_text text h = sym (text_long dot_step (dot_states all_unnamed 0) text h)
 
-pub come_first : (text : List ℕ) (f : DotStates) → length text ≤ text_limit → f ≡ dot_states all_unnamed 0
-    → Reached dot_step text (compiled_attributes text) 0 1 f
+pub come_first : (f : DotStates) → f ≡ dot_states all_unnamed 0 → (text : List ℕ) (it e : Enumerate TextLines) (ls : TextLines) → it ≡ e
+    → enumerate_source e ≡ ls → enumerate_count e ≡ 0 → lines_left ls ≡ lines_of text → length text ≤ text_limit
+    → Gives dot_step (compiled_attributes text) it f × f.lines + left_count it ≤ text_limit
 unfolding compiled_attributes
-come_first text f short e = rw e (text_first dot_step (dot_states all_unnamed 0) text short)
-
-pub no_lines : (f : DotStates) → f ≡ dot_states all_unnamed 0 → f.lines ≤ 0
-no_lines f e = rw e (omega arith)
+come_first f start text it e ls is source count all short =
+    rw start (walk_first text it e ls is source count all dot_step (dot_states all_unnamed 0) short, omega (arith, walk_few text it e ls is source count all))
 
 step_long : (f : DotStates) (line : List ℕ) → line_limit < length line → dot_step f line ≡ stop LineTooLong (length line - line_limit)
 unfolding dot_step read_dot_line opening_of

@@ -312,19 +312,11 @@ fn read_text(text: &[u8]) -> Result<DotStates, Rejection>
         return Err(Refusal::TextTooLong.into());
     }
     let mut states = DotStates::new();
-    let mut line = 1;
-    let mut at = 0;
-    // A cursor: where a line ends says where the next one begins. Each kind of table has such a loop over its own
-    // state; one for all would need a trait for what a line does to it.
-    while at < text.len() {
-        let end = lines::line_end(text, at);
-        let here = &text[at..end];
-        match states.after(here) {
+    for (i, line) in lines::lines_of(text).enumerate() {
+        match states.after(line) {
             Ok(next) => states = next,
-            Err(fault) => return Err(fault.in_line(here, line)),
+            Err(fault) => return Err(fault.in_line(line, i + 1)),
         }
-        at = end + 1;
-        line += 1;
     }
     Ok(states)
 }

@@ -6,10 +6,13 @@ use Rattle.basics.proofs.Tests.{told, by_cases}
 use Rattle.basics.specs.declared.Refusal.TheVariants.{AlreadyDefined, TextTooLong, LineTooLong, UnknownCharset}
 use Rattle.scalars.specs.Characters.{is_charset}
 use Rattle.lines.specs.Texts.{text_limit, line_limit, opening_of, Step, next, stop, rejected, run_text, outcome_column, rejection_of}
-use Rattle.lines.specs.Lines.{without_cr}
-use Rattle.lines.specs.Internal.{LineEnd, step_of}
+use Rattle.lines.specs.Lines.{lines_of, without_cr}
+use Rattle.lines.specs.Internal.{step_of, lines_left}
 use Rattle.lines.specs.declared.LineFault.{LineFault}
-use Rattle.lines.proofs.Texts.{Reached, outcome_of, line_read, line_refused, text_first, text_long, run_column}
+use Rattle.std.specs.Iterator.Adapters.{enumerate_source, enumerate_count}
+use Rattle.std.specs.declared.iter.Enumerate.{Enumerate}
+use Rattle.lines.specs.declared.TextLines.{TextLines}
+use Rattle.lines.proofs.Texts.{Gives, left_count, walk_few, walk_first, text_long, run_column}
 use Rattle.attributes.specs.Compile.{with_dot}
 use Rattle.attributes.specs.declared.DotStates.{DotStates}
 use Rattle.attributes.specs.declared.DotLine.{DotLine}
@@ -56,32 +59,24 @@ pub ruleset on_line = (line_fault, line_skip, dot_fault, dot_taken, byte_again, 
 -- ---- the lines of a text
 
 -- k is what a call answered of the set
-module _ (charset : ℕ) (text : List ℕ) (k : Bool) (is : k ≡ is_charset charset) where
+module _ (charset : ℕ) (text : List ℕ) (k : Bool) (is-known : k ≡ is_charset charset) where
   pub no_set : not k ≡ true → rejected UnknownCharset 0 0 ≡ compiled_bytes charset text
   unfolding compiled_bytes
-  no_set q = rw (told is (not-true k q))
+  no_set q = rw (told is-known (not-true k q))
 
   module _ (q : not k ≡ false) where
     pub long_text : text_limit < length text → rejected TextTooLong 0 0 ≡ compiled_bytes charset text
     unfolding compiled_bytes
-    long_text h = rw (told is (not-false k q)) (sym (text_long (step charset) begun text h))
+    long_text h = rw (told is-known (not-false k q)) (sym (text_long (step charset) begun text h))
 
-    pub come_first : (s : SoFar) → length text ≤ text_limit → s ≡ begun → Reached (step charset) text (compiled_bytes charset text) 0 1 s
+    pub come_first : (s : SoFar) → s ≡ begun → (it e : Enumerate TextLines) (ls : TextLines) → it ≡ e → enumerate_source e ≡ ls → enumerate_count e ≡ 0
+        → lines_left ls ≡ lines_of text → length text ≤ text_limit
+        → Gives (step charset) (compiled_bytes charset text) it s × s.dots.lines + left_count it ≤ text_limit × s.count + left_count it ≤ text_limit
     unfolding compiled_bytes
-    come_first s short e = rw (e, told is (not-false k q)) (text_first (step charset) begun text short)
-
--- the next line ends at e, r and t are what a call that took it answered and left
-module _ (charset : ℕ) (text : List ℕ) (at n : ℕ) (s : SoFar) (here : Reached (step charset) text (compiled_bytes charset text) at n s) (e : ℕ)
-    (some : at < length text) (ends : LineEnd text at e)
-    (r : Result Unit LineFault) (t : SoFar) (does : step_of (left_by r t) ≡ step charset s (without_cr (take (e - at) (drop at text)))) where
-  pub taken_refused : (fault : LineFault) → r ≡ Err fault → compiled_bytes charset text ≡ outcome_of (rejection_of fault (take (e - at) (drop at text)) n)
-  taken_refused fault q = line_refused (step charset) text (compiled_bytes charset text) at n s here e (left_by r t) some ends does fault (rw q)
-
-  pub taken_read : (u : Unit) → r ≡ Ok u → Reached (step charset) text (compiled_bytes charset text) (e + 1) (n + 1) t
-  taken_read u q = line_read (step charset) text (compiled_bytes charset text) at n s here e (left_by r t) some ends does t (rw q)
-
-pub none_yet : (s : SoFar) → s ≡ begun → (s.dots.lines ≤ 0) × (s.count ≤ 0)
-none_yet s e = rw e (omega arith, omega arith)
+    come_first s start it e ls is source count all short =
+        let few = walk_few text it e ls is source count all in
+        let known = told is-known (not-false k q) in
+        rw (start, known) (walk_first text it e ls is source count all (step charset) begun short, omega (arith, few), omega (arith, few))
 
 step_long : (charset : ℕ) (s : SoFar) (line : List ℕ) → line_limit < length line → step charset s line ≡ stop LineTooLong (length line - line_limit)
 unfolding step read_table_line opening_of

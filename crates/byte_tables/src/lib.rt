@@ -217,18 +217,10 @@ fn read_text(charset: u32, text: &[u8]) -> Result<SoFar, Rejection>
         return Err(Refusal::TextTooLong.into());
     }
     let mut table = SoFar::new();
-    let mut line = 1;
-    let mut at = 0;
-    // A cursor: where a line ends says where the next one begins. Each kind of table has such a loop over its own
-    // state; one for all would need a trait for what a line does to it.
-    while at < text.len() {
-        let end = lines::line_end(text, at);
-        let here = &text[at..end];
-        if let Err(fault) = table.take(charset, here) {
-            return Err(fault.in_line(here, line));
+    for (i, line) in lines::lines_of(text).enumerate() {
+        if let Err(fault) = table.take(charset, line) {
+            return Err(fault.in_line(line, i + 1));
         }
-        at = end + 1;
-        line += 1;
     }
     Ok(table)
 }

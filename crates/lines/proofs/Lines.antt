@@ -1,4 +1,4 @@
--- Where a line ends, as the first LF, the CR at a line's end by position, and columns.
+-- Where a line ends, as the first LF, and the CR at a line's end by position.
 use Rattle.std.proofs.Common.{◌≡◌, refl, sym, ap, ◌∙◌, ℕ, suc, ◌+◌, ◌-◌, ◌≤◌, ◌<◌, List, [], ◌∷◌, Option, length, take, drop, get_or, arith}
 use Rattle.std.specs.List.{position, position_or_len}
 use Rattle.std.specs.Option.{unwrap_or}
@@ -7,7 +7,6 @@ use lib.Dec.{eqb}
 use Rattle.basics.proofs.Tests.{by_cases}
 use Rattle.utf8.proofs.Positions.{end_of, first_from, first_within}
 use Rattle.lines.specs.Lines.{LF, CR, without_cr}
-use Rattle.lines.specs.Texts.{column_of}
 use Rattle.lines.specs.Internal.{to_lf, LineEnd}
 
 to_lf_lem : (bs : List ℕ) → to_lf bs ≡ position_or_len (λ b. eqb b LF) bs
@@ -46,7 +45,3 @@ cr_short [] h = refl
 cr_short (b ∷ bs) h = absurd (omega arith)
 
 pub ruleset cr_cases = (cr_last, cr_none, cr_short)
-
--- front is what stands before the CR, m bytes of it before the place
-pub column_at : (line front : List ℕ) (m left : ℕ) → front ≡ without_cr line → m ≡ length front - left → m + 1 ≡ column_of (without_cr line) left
-column_at line front m left e h = rw (← e, h)

@@ -1,6 +1,8 @@
 -- The lines of a text: a text that grows, the next line by position, a loop over them, and how far columns go.
 use Prim.Native.Nat.{ℕ, suc, ◌+◌, ◌-◌, ◌≤◌, ◌<◌}
+use Rattle.std.specs.Prelude.{min}
 use mathlib.Core.Path.{◌≡◌, refl, ◌∙◌}
+use Rattle.std.proofs.lemmas.List.{take_rest, drop_min}
 use mathlib.Core.Bool.{Bool, true, false}
 use mathlib.Core.List.{List, [], ◌∷◌, ◌++◌}
 use native.Mathlib.Nat.{add-zero}
@@ -17,10 +19,15 @@ use Rattle.basics.specs.declared.Refusal.TheVariants.{TextTooLong, LineTooLong}
 use Rattle.lines.specs.Lines.{LF, with_byte, lines_of, without_cr, is_ended}
 use Rattle.lines.specs.Texts.{text_limit, line_limit, Step, next, stop, column_of, Outcome, accepted, rejected, on_step, run_lines, run_text}
 use Rattle.lines.specs.Texts.{outcome_reply, outcome_column, compiled_reply, compiled_column, rejection_of}
-use Rattle.lines.specs.Internal.{to_lf, LineEnd, step_of}
+use Rattle.lines.specs.Internal.{to_lf, LineEnd, step_of, lines_left}
 use Rattle.lines.specs.declared.LineFault.{LineFault}
 use Rattle.lines.specs.declared.Rejection.{Rejection}
-use Rattle.std.specs.Prelude.{Result, Ok, Err}
+use Rattle.std.specs.Prelude.{Result, Ok, Err, Some}
+use Rattle.std.specs.Borrow.{Bor}
+use Rattle.std.specs.Iterator.{YieldsFirstRef}
+use Rattle.std.specs.Iterator.Adapters.{enumerate_source, enumerate_count, enumerate_steps}
+use Rattle.std.specs.declared.iter.Enumerate.{Enumerate}
+use Rattle.lines.specs.declared.TextLines.{TextLines}
 
 -- ---- the next line, by position
 
@@ -42,6 +49,18 @@ line_next text at e ends h =
     let size : to_lf (drop at text) ≡ e - at = omega arith in
     let up : at + suc (e - at) ≡ e + 1 = omega arith in
     next_line (drop at text) some ∙ rw (size, drop-drop (suc (e - at)) at text, up)
+
+-- a text's first line, which ends at e, and the lines behind it, from m on
+pub first_line : (text : List ℕ) (e m : ℕ) → 0 < length text → LineEnd text 0 e → m ≡ min (e + 1) (length text)
+    → lines_of text ≡ take e text ∷ lines_of (take (length text - m) (drop m text))
+first_line text e m some ends h =
+    let at : to_lf text ≡ e = omega (arith, ends.is) in
+    next_line text some ∙ rw (take_rest text m, h, drop_min (e + 1) text, at, add-one e)
+
+pub no_line : (text : List ℕ) → length text ≡ 0 → lines_of text ≡ []
+unfolding lines_of
+no_line [] h = refl
+no_line (b ∷ bs) h = absurd (omega arith)
 
 -- ---- a text and the same with bytes after it
 
@@ -119,6 +138,53 @@ module _ {S : Type 0} (step : S → List ℕ → Step S) (text : List ℕ) (whol
     pub line_read : (s' : S) → o ≡ Ok s' → Reached step text whole (e + 1) (n + 1) s'
     unfolding run_lines
     line_read s' q = record { within = omega arith; count = omega arith; left = here.left ∙ rw (line_next text at e ends some, ← does, q) }
+
+-- a text has no more lines than bytes
+pub lines_few : (text : List ℕ) → length (lines_of text) ≤ length text
+unfolding lines_of
+lines_few [] = omega arith
+lines_few (b ∷ bs) = by_cases (eqb b LF) (λ q. rw q (omega (arith, lines_few bs))) (λ q. rw q (go (lines_of bs) (lines_few bs)))
+  where
+    go : (ls : List (List ℕ)) → length ls ≤ length bs → length (with_byte b ls) ≤ length (b ∷ bs)
+    go [] h = omega arith
+    go (l ∷ ls) h = omega (arith, h)
+
+-- a `for` over the lines of a text, with their numbers: what the lines that are left give, from the state s
+abbrev pub Gives : {S : Type 0} → (S → List ℕ → Step S) → Outcome S → Enumerate TextLines → S → Type 0
+Gives step whole it s = whole ≡ run_lines step (lines_left (enumerate_source it)) (enumerate_count it + 1) s
+
+abbrev pub left_count : Enumerate TextLines → ℕ
+left_count it = length (lines_left (enumerate_source it))
+
+-- it begins with all of them
+module _ (text : List ℕ) (it e : Enumerate TextLines) (ls : TextLines) (is : it ≡ e) (source : enumerate_source e ≡ ls) (count : enumerate_count e ≡ 0)
+    (all : lines_left ls ≡ lines_of text) where
+  pub walk_few : left_count it ≤ length text
+  walk_few = rw (is, source, all) (lines_few text)
+
+  pub walk_short : (limit : ℕ) → length text < limit → enumerate_count it + left_count it < limit
+  walk_short limit h = let none : enumerate_count it ≡ 0 = rw is count in omega (arith, walk_few)
+
+  pub walk_first : {S : Type 0} (step : S → List ℕ → Step S) (s : S) → length text ≤ text_limit → Gives step (run_text step s text) it s
+  unfolding run_text
+  walk_first step s short = rw (le-ltb _ _ short, is, source, count, all)
+
+module _ {S : Type 0} (step : S → List ℕ → Step S) (whole : Outcome S) (it : Enumerate TextLines) (s : S) (here : Gives step whole it s) where
+  pub walk_end : lines_left (enumerate_source it) ≡ [] → whole ≡ accepted s
+  unfolding run_lines
+  walk_end q = here ∙ rw q
+
+  -- the next line, the i-th from 0 on; o is what was answered of it
+  module _ (line : Bor (List ℕ)) (i : ℕ) (on : Enumerate TextLines)
+      (gives : enumerate_steps (YieldsFirstRef lines_left) it (Some (i, line)) on)
+      (o : Result S LineFault) (does : step_of o ≡ step s (without_cr line.now)) where
+    pub walk_refused : (fault : LineFault) → o ≡ Err fault → whole ≡ outcome_of (rejection_of fault line.now (i + 1))
+    unfolding run_lines
+    walk_refused fault e = here ∙ rw (gives.0, gives.1, ← does, e)
+
+    pub walk_on : (s' : S) → o ≡ Ok s' → Gives step whole on s'
+    unfolding run_lines
+    walk_on s' e = here ∙ rw (gives.0, gives.2, ← does, e)
 
 -- before the first line; and a text that is too long, of which none is read
 module _ {S : Type 0} (step : S → List ℕ → Step S) (s : S) (text : List ℕ) where

@@ -1,11 +1,12 @@
 -- What the code knows beyond the rules: positions within a text or a line, and how it says what a line leaves.
 use Rattle.std.specs.Prelude.{ℕ, ◌+◌, ◌≤◌, ◌≡◌, Bool, List, [], ◌∷◌, length, drop, eqb, Result, Ok, Err}
 use Rattle.basics.specs.Choice.{pick}
-use Rattle.lines.specs.Lines.{LF}
+use Rattle.lines.specs.Lines.{LF, lines_of}
 use Rattle.lines.specs.Words.{first_at, word_at}
 use Rattle.lines.specs.Texts.{Step, next, stop}
 use Rattle.lines.specs.declared.Word.{Word}
 use Rattle.lines.specs.declared.LineFault.{LineFault}
+use Rattle.lines.specs.declared.TextLines.{TextLines}
 
 -- how many bytes stand before the first LF, or all
 unfoldable pub to_lf : List ℕ → ℕ
@@ -36,3 +37,7 @@ pub record NextWord (line : List ℕ) (at : ℕ) (w : Word) : Type 0 where
 abbrev pub step_of : {S : Type 0} → Result S LineFault → Step S
 step_of (Ok s) = next s
 step_of (Err fault) = stop fault.refusal fault.left
+
+-- the lines that are left to walk
+abbrev pub lines_left : TextLines → List (List ℕ)
+lines_left s = lines_of s.rest.now

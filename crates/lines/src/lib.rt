@@ -2,10 +2,11 @@
 #![tactic(auto)]
 
 ghost use Rattle.std.specs.Prelude.{◌≡◌, ◌≤◌, length};
-ghost use Rattle.lines.specs.Lines.{without_cr};
+ghost use Rattle.lines.specs.Lines.{lines_of, without_cr};
 ghost use Rattle.lines.specs.Words.{is_blank, same_bytes, is_over};
 ghost use Rattle.lines.specs.Texts.{opening_of, column_of, rejection_of};
-ghost use Rattle.lines.specs.Internal.{LineEnd, NextWord};
+ghost use Rattle.lines.specs.Internal.{LineEnd, NextWord, lines_left};
+ghost use Rattle.std.specs.Iterator.{YieldsFirstRef, item_count};
 
 use basics::Refusal;
 
@@ -77,6 +78,38 @@ impl LineFault {
     }
 }
 
+// The lines of a text, without their LF: an iterator over what is left of it.
+#[derive(Drop)]
+pub struct TextLines<'a> {
+    rest: &'a [u8],
+}
+
+impl<'a> Iterator for TextLines<'a> {
+    type Item = &'a [u8];
+
+    ghost next_gives = { YieldsFirstRef lines_left };
+
+    ghost remaining = { item_count lines_left };
+
+    fn next(&mut self) -> Option<&'a [u8]> {
+        let rest = self.rest;
+        if rest.is_empty() {
+            return None;
+        }
+        let end = line_end(rest, 0);
+        // Behind it stands its LF, unless it is the last and has none.
+        self.rest = &rest[(end + 1).min(rest.len())..];
+        Some(&rest[..end])
+    }
+}
+
+// The lines of a text, to be walked by a `for`.
+pub fn lines_of(text: &[u8]) -> TextLines<'_>
+    ensures { lines_left result ≡ lines_of text.now }
+{
+    TextLines { rest: text }
+}
+
 // Where the line that begins at `at` ends: at its LF, or at the end of the text.
 pub fn line_end(text: &[u8], at: usize) -> usize
     requires { at ≤ length text.now }
@@ -98,7 +131,6 @@ pub fn without_cr(line: &[u8]) -> &[u8]
 }
 
 // The column of a place `left` bytes before the end of a line, whose one CR is not counted.
-#[tactic(auto, using(crate::proofs::Lines::column_at))]
 pub fn column_of(line: &[u8], left: usize) -> usize
     ensures { result ≡ column_of (without_cr line.now) left }
 {

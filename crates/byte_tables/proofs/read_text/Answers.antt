@@ -1,6 +1,6 @@
-use Rattle.std.proofs.Common.{sym, rules}
-use Rattle.lines.proofs.Texts.{lines_read, refused_as}
-use Rattle.byte_tables.proofs.Compile.{no_set, long_text, come_first, none_yet, taken_refused, taken_read}
+use Rattle.std.proofs.Common.{refl, sym, rules, arith, ap, length, Ok, Err, inl}
+use Rattle.lines.proofs.Texts.{walk_short, walk_refused, walk_on, walk_end, refused_as}
+use Rattle.byte_tables.proofs.Compile.{no_set, long_text, come_first}
 use Rattle.byte_tables.proofs.read_text.Goals as goal
 
 pub returns-then-not-is_charset : goal.returns-then-not-is_charset
@@ -9,14 +9,30 @@ returns-then-not-is_charset c = rw c.into.ensures (search no_set)
 pub returns-then-text-gt-TEXT_LIMIT : goal.returns-then-text-gt-TEXT_LIMIT
 returns-then-text-gt-TEXT_LIMIT c = rw c.into-then-text-gt-TEXT_LIMIT.ensures (search long_text)
 
-pub loop-at-init : goal.loop-at-init
-loop-at-init c = (search (none_yet, rules), search (none_yet, rules), search rules, search come_first)
+pub loop-i-init-derived : goal.loop-i-init-derived
+loop-i-init-derived c =
+    let walk = c.enumerate-i-items.ensures in
+    ((tt, tt, inl (walk_short _ _ _ _ c.into_iter-i-iterator.ensures.into_iter_gives walk.source walk.count c.lines_of.ensures _ (search rules))), tt)
+
+pub loop-i-init : goal.loop-i-init
+loop-i-init c =
+    let walk = c.enumerate-i-items.ensures in
+    come_first _ _ _ c.is_charset.ensures (search rules) _ c.new-table.ensures _ _ _ c.into_iter-i-iterator.ensures.into_iter_gives walk.source walk.count
+    c.lines_of.ensures (search rules)
+
+pub loop-i-preserved : goal.loop-i-preserved
+loop-i-preserved c =
+    let here = c.loop-i.invariant in
+    let gives = c.in-Some.ensures.steps in (
+      walk_on _ _ c.loop-i.i-iterator _ here.0 c.in-Some.line _ c.next.new.self gives (Ok c.take.new.self) c.in_default.ensures.does _ refl,
+      omega (arith, ap length gives.0, here.1, c.take.ensures.dots_bound),
+      omega (arith, ap length gives.0, here.2, c.take.ensures.count_bound),
+    )
 
 pub returns-in-Err : goal.returns-in-Err
-returns-in-Err c = search (refused_as, taken_refused)
-
-pub loop-at-preserved : goal.loop-at-preserved
-loop-at-preserved c = (search rules, search rules, search rules, search taken_read)
+returns-in-Err c =
+    let read = walk_refused _ _ c.loop-i.i-iterator _ c.loop-i.invariant.0 c.in-Some.line _ c.next.new.self c.in-Some.ensures.steps in
+    refused_as _ _ _ _ _ c.in_line.ensures (read (Err c.in-Err.fault) c.in-Err.ensures.does _ refl)
 
 pub returns : goal.returns
-returns c = sym (lines_read _ _ _ _ _ _ c.loop-at.invariant.3 (search rules))
+returns c = sym (walk_end _ _ c.loop-i.i-iterator _ c.loop-i.invariant.0 c.in-None.ensures.steps.0.0)
