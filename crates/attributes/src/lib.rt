@@ -97,10 +97,7 @@ impl State {
     fn is_named(self) -> bool
         ensures { result ≡ is_named self }
     {
-        match self {
-            State::Unnamed => false,
-            _ => true,
-        }
+        !matches!(self, State::Unnamed)
     }
 }
 

@@ -28,7 +28,7 @@ pub struct Sought {
     pub comparisons: usize,
 }
 
-// A character, and what a page shows for it.
+// A character, and what a page shows for it. The rule is a number, as in `rules::Answer`.
 #[derive(Clone, Copy)]
 struct Shown {
     character: u32,

@@ -1,5 +1,8 @@
 -- The cells of the 256 bytes.
-use Rattle.std.proofs.Common.{◌≡◌, refl, ap, ◌∙◌, sym, ℕ, zero, suc, ◌+◌, ◌<◌, List, [], ◌∷◌, Option, None, length, get_or, arith}
+use Rattle.std.proofs.Common.{◌≡◌, refl, ap, ◌∙◌, sym, ℕ, zero, suc, ◌+◌, ◌<◌, List, [], ◌∷◌, Option, None, length, get_or, set, ⊎_elim, arith}
+use Rattle.std.proofs.Common.{get_or-set_same, get_or-set_other}
+use Rattle.std.proofs.lemmas.Bool.{cases_eq}
+use Rattle.std.proofs.lemmas.List.{length-set}
 use Rattle.std.proofs.lemmas.List.FromFn.{fill_by_all}
 use Rattle.attributes.specs.declared.State.{State}
 use Rattle.byte_tables.specs.Compile.{shown_by, cells_from}
@@ -20,7 +23,7 @@ cell_at places (s ∷ ss) byte (suc i) h =
     rw same at (cell_at places ss (byte + 1) i (omega arith))
 
 -- an array that has the cell of each byte
-pub cells_written : (places : List State) (owns : List (Option ℕ)) (cells : List ℕ) → length owns ≡ 256 → length cells ≡ 256
+cells_written : (places : List State) (owns : List (Option ℕ)) (cells : List ℕ) → length owns ≡ 256 → length cells ≡ 256
     → ((k : ℕ) → k < 256 → get_or cells k 0 ≡ shown_by places (get_or owns k None) k) → cells ≡ cells_from places owns 0
 cells_written places owns cells size long each =
     let own : ℕ → ℕ = (λ k. shown_by places (get_or owns k None) k) in
@@ -28,3 +31,13 @@ cells_written places owns cells size long each =
     let here : (k : ℕ) → k < 256 → get_or all k 0 ≡ own k =
     (λ k h. let zero-on : 0 + k ≡ k = omega arith in rw zero-on at (cell_at places owns 0 k (omega arith))) in
     fill_by_all own cells 256 0 long each ∙ sym (fill_by_all own all 256 0 (omega (arith, cells_length places owns 0)) here)
+
+-- the last byte's cell is written, behind those of all others
+pub last_written : (places : List State) (owns : List (Option ℕ)) (cells : List ℕ) (byte : ℕ) {v : ℕ} → length owns ≡ 256 → length cells ≡ 256
+    → ((k : ℕ) → k < byte → get_or cells k 0 ≡ shown_by places (get_or owns k None) k) → byte ≡ 255 → v ≡ shown_by places (get_or owns byte None) byte
+    → set cells byte v ≡ cells_from places owns 0
+last_written places owns cells byte {v} size long each last own =
+    cells_written places owns (set cells byte v) size (length-set cells byte v ∙ long)
+    (λ k h.
+    ⊎_elim (λ same. rw same (get_or-set_same cells byte v 0 (omega arith) ∙ own))
+    (λ other. get_or-set_other cells byte k v 0 other ∙ each k (omega arith)) (cases_eq k byte))

@@ -1,11 +1,11 @@
 -- One line more, and the lines of a text one after another.
-use Rattle.std.proofs.Common.{◌≡◌, sym, ℕ, ◌+◌, ◌-◌, ◌≤◌, ◌<◌, Bool, true, false, not, List, length, take, drop, get_or, set, None, Some, Result}
+use Rattle.std.proofs.Common.{◌≡◌, sym, ℕ, ◌+◌, ◌-◌, ◌≤◌, ◌<◌, Bool, true, false, not, List, length, take, get_or, set, None, Some, Result}
 use Rattle.std.proofs.Common.{Ok, Err, arith}
 use borrow.Author.Tests.{lt-ltb, not-true, not-false}
 use Rattle.basics.proofs.Tests.{told, by_cases}
 use Rattle.basics.specs.declared.Refusal.TheVariants.{AlreadyDefined, TextTooLong, LineTooLong, UnknownCharset}
 use Rattle.scalars.specs.Characters.{is_charset}
-use Rattle.lines.specs.Texts.{text_limit, line_limit, opening_of, Step, next, stop, rejected, run_text, outcome_column, rejection_of}
+use Rattle.lines.specs.Texts.{text_limit, line_limit, opening_of, Step, next, stop, rejected, run_text, outcome_column}
 use Rattle.lines.specs.Lines.{lines_of, without_cr}
 use Rattle.lines.specs.Internal.{step_of, lines_left}
 use Rattle.lines.specs.declared.LineFault.{LineFault}

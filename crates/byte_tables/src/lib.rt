@@ -1,4 +1,5 @@
-// Byte tables, edition 1 of text tables: from each of the 256 bytes to its cell.
+// Byte tables, edition 1 of text tables: from each of the 256 bytes to its cell. A local character set is a number, as
+// in `scalars`: callers name any.
 #![tactic(auto)]
 
 ghost use Rattle.std.specs.Prelude.{◌≡◌, ◌+◌, ◌≤◌, ◌<◌, length, IfOk};
@@ -183,14 +184,15 @@ impl SoFar {
     }
 
     // The cells of all bytes.
-    #[tactic(auto, using(crate::proofs::Cells::cells_written))]
+    #[tactic(auto, using(crate::proofs::Cells::last_written))]
     fn cells(&self) -> [u8; 256]
         ensures { result ≡ cells_from self.now.dots.places self.now.slots 0 }
     {
         let places = self.dots.places;
         let mut cells = [255u8; 256];
-        for (byte, cell) in cells.iter_mut().enumerate() {
-            *cell = shown_by(places, self.slots[byte], byte as u8);
+        for byte in 0..=255 {
+            let slot = usize::from(byte);
+            cells[slot] = shown_by(places, self.slots[slot], byte);
         }
         cells
     }

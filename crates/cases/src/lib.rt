@@ -1,5 +1,6 @@
 // Runs a case: a line of five fields that says a call, a text, a question, the answer that is expected and what it is
-// about. Behind the call stands the local character set, ISO 8859-1 where none is named.
+// about. Behind the call stands the local character set, ISO 8859-1 where none is named. It is a number, as in
+// `scalars`: callers name any.
 #![tactic(auto)]
 
 ghost use Rattle.std.specs.Prelude.{◌≡◌, ◌≤◌};
@@ -113,6 +114,7 @@ impl Call {
     // What a call answers of these words. One `match`, in which each call takes what it needs of them.
     fn answer(self, words: &[u32], question: &[u8]) -> Text {
         let n = fields::number(question);
+        // `as`, here and below: Rust has no `From` from `u32` to `u8` or `usize`; the remainder that is narrowed fits.
         match self {
             Call::Show => replies::looked_text(lookup::look_up(words, n)),
             Call::Type => replies::type_text(words, (n % 256) as u8),
@@ -170,18 +172,20 @@ impl Kind {
             b"row" => Kind::Row,
             b"edition" => Kind::Edition,
             b"report" => Kind::Report,
+            b"lent" => Kind::Table(Source::Lent, Call::Show),
+            b"short" => Kind::Table(Source::Short, Call::Show),
+            b"beyond" => Kind::Table(Source::Beyond, Call::Show),
             _ => {
-                let (front, behind) = fields::split(word, b'_');
-                let source = match front {
-                    b"lent" => Source::Lent,
-                    b"short" => Source::Short,
-                    b"beyond" => Source::Beyond,
+                let (source, name) = match word {
+                    [b'l', b'e', b'n', b't', b'_', name @ ..] => (Source::Lent, name),
+                    [b's', b'h', b'o', b'r', b't', b'_', name @ ..] => (Source::Short, name),
+                    [b'b', b'e', b'y', b'o', b'n', b'd', b'_', name @ ..] => (Source::Beyond, name),
                     _ => return Some(Kind::Table(Source::Compiled, Call::named(word)?)),
                 };
-                match behind {
+                match Call::named(name)? {
                     // A lookup is not named there.
-                    [] => Kind::Table(source, Call::Show),
-                    name => Kind::Table(source, Call::named(name)?),
+                    Call::Show => return None,
+                    call => Kind::Table(source, call),
                 }
             }
         })

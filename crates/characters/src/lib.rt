@@ -1,4 +1,5 @@
-// A word as a character or byte operand: what it spells, and the character or byte that it stands for.
+// A word as a character or byte operand: what it spells, and the character or byte that it stands for. A local
+// character set is a number, as in `scalars`: callers name any.
 #![tactic(auto)]
 
 ghost use Rattle.std.specs.Prelude.{◌≡◌, ◌+◌, ◌*◌, ◌%◌, ◌<◌, IfSome, unwrap_or, option_map};

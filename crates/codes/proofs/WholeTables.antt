@@ -17,7 +17,7 @@ use Rattle.typing.proofs.TypedCells.{entry_types, entries_length}
 use Rattle.attributes.specs.declared.State.{State}
 use Rattle.attributes.specs.Cells.{attribute_cell}
 use Rattle.byte_tables.specs.Compile.{compiled_bytes, outcome_cells}
-use Rattle.codes.specs.Codes.{character_code, cell_count, numbers_from, byte_cells_after}
+use Rattle.codes.specs.Codes.{character_code, cell_count, numbers_from, cells_of, byte_cells_after}
 use Rattle.codes.specs.Internal.{EntriesFit}
 
 -- ---- the elements one after another
@@ -47,11 +47,20 @@ number_at first (suc count) (suc i) h = omega (arith, number_at (first + 1) coun
 abbrev pub cells_to : List State → ℕ → List ℕ → List ℕ
 cells_to places i old = filled_to (λ (byte : ℕ). attribute_cell places byte) (numbers_from 0 cell_count) i old
 
-pub cells_more : (places : List State) (old : List ℕ) (i : ℕ) {new : List ℕ} {v : ℕ} → new ≡ cells_to places i old → i < cell_count → cell_count ≤ length old
-    → v ≡ attribute_cell places i → set new i v ≡ cells_to places (i + 1) old
-cells_more places old i e h room p =
-    let here : get_or (numbers_from 0 cell_count) i 0 ≡ i = omega (arith, number_at 0 cell_count i h) in
-    all_more (λ (byte : ℕ). attribute_cell places byte) (numbers_from 0 cell_count) (numbers_length 0 cell_count) old i e 0 h room (rw here p)
+-- the cell of byte i is written at its place
+module _ (places : List State) (old : List ℕ) (i at : ℕ) {new : List ℕ} {v : ℕ} (e : new ≡ cells_to places i old) (same : at ≡ i)
+    (room : cell_count ≤ length old) (p : v ≡ attribute_cell places i) where
+  pub cells_more : i ≤ 255 → set new at v ≡ cells_to places (i + 1) old
+  cells_more h =
+      let here : get_or (numbers_from 0 cell_count) i 0 ≡ i = omega (arith, number_at 0 cell_count i (omega arith)) in
+      rw same
+      (all_more (λ (byte : ℕ). attribute_cell places byte) (numbers_from 0 cell_count) (numbers_length 0 cell_count) old i e 0 (omega arith) room
+      (rw here p))
+
+  pub cells_last : i ≡ 255 → set new at v ≡ over (cells_of places) old
+  cells_last last =
+      all_over (λ (byte : ℕ). attribute_cell places byte) (numbers_from 0 cell_count) (numbers_length 0 cell_count) old (i + 1)
+      (cells_more (omega arith)) (omega arith) (omega arith)
 
 -- the size of an array that is copied
 pub size_within : (all old : List ℕ) → length all ≡ cell_count → cell_count ≤ length old → length (take cell_count old) ≡ length all

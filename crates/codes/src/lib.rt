@@ -22,6 +22,7 @@ pub fn refusal_code(refusal: Refusal, column: usize, place: usize) -> u64
     ensures { result ≡ refusal_code (number_of refusal) column place }
 {
     let number = u64::from(basics::number_of(refusal));
+    // `as`, here and below: Rust has no `From` from `usize` to `u64`; what `put_entries` narrows fits by `EntriesFit`.
     let middle = column.min(0xFFFF) as u64;
     let low = place.min(0xFFFFFFFF) as u64;
     number * 0x1000000000000 + middle * 0x100000000 + low
@@ -105,13 +106,13 @@ pub fn put_entries(entries: [Option<u32>; 256], codes: &mut [u32])
 }
 
 // Writes the cell of each of the 256 attribute bytes.
+#[tactic(auto, using(crate::proofs::WholeTables::cells_last))]
 pub fn put_cells(places: [State; 8], cells: &mut [u8])
     requires { cell_count ≤ length cells.old }
     ensures { cells.new ≡ over (cells_of places) cells.old }
 {
-    // A place below 256 is a byte.
-    for byte in 0..CELL_COUNT {
-        cells[byte] = attributes::attribute_cell(places, byte as u8);
+    for byte in 0..=255 {
+        cells[usize::from(byte)] = attributes::attribute_cell(places, byte);
     }
 }
 

@@ -1,20 +1,19 @@
 -- The compile call: the loop over the lines of a text, with the words that they fill and the blocks that they open, and what the call answers and writes.
-use Prim.Native.Nat.{ℕ, ◌+◌, ◌-◌, ◌≤◌, ◌<◌}
-use mathlib.Core.Path.{◌≡◌, refl, sym, ◌∙◌}
+use Prim.Native.Nat.{ℕ, ◌+◌, ◌≤◌, ◌<◌}
+use mathlib.Core.Path.{◌≡◌, refl, sym, ap, ◌∙◌}
 use mathlib.Core.Bool.{true, false}
 use mathlib.Core.List.{List, [], ◌∷◌, ◌++◌}
 use native.Mathlib.Omega.{arith}
-use lib.ListN.{length, take, drop, replicate}
+use lib.ListN.{length, drop, replicate}
 use borrow.Author.Tests.{lt-ltb, le-ltb}
 use Rattle.std.specs.Prelude.{Option, None, Some, Result, Ok, Err}
 use Rattle.basics.specs.declared.Refusal.TheVariants.{ShortSlice, TextTooLong, UnclosedBlock, UnknownCharset}
 use Rattle.scalars.specs.Characters.{is_charset}
-use Rattle.lines.specs.Lines.{without_cr}
-use Rattle.lines.specs.Texts.{text_limit, Step, accepted, run_text, compiled_reply, compiled_column, rejection_of}
-use Rattle.lines.specs.Internal.{LineEnd}
+use Rattle.lines.specs.Lines.{lines_of, without_cr}
+use Rattle.lines.specs.Texts.{text_limit, Step, accepted, run_lines, run_text, compiled_reply, compiled_column, rejection_of}
 use Rattle.lines.specs.declared.LineFault.{LineFault}
 use Rattle.lines.specs.declared.Rejection.{Rejection}
-use Rattle.lines.proofs.Texts.{Reached, lines_read, line_refused, line_read}
+use Rattle.lines.proofs.Texts.{lines_read, line_refused, line_read, lines_few}
 use Rattle.blocks.specs.Internal.{stack, starts_of, first_of}
 use Rattle.pairs.specs.Words.{pair_words, table_words, charset_of, definitions}
 use Rattle.table.specs.Internal.{Written}
@@ -26,24 +25,21 @@ use Rattle.compiler.proofs.Effects.{step_counts}
 
 -- ---- the lines
 
--- where the loop has come to: what the text still gives, after the words and the state of the lines before. It began with empty
-pub record Come (text empty ws : List ℕ) (s : State) (at : ℕ) : Type 0 where
-  pub reached : Reached (step (charset_of empty)) text (run_text (step (charset_of empty)) begun text) at (s.lines + 1) (standing ws s)
+-- where the loop has come to: what the text gives is what the lines ls that are left give, after the words and the state of those before. It began with empty
+pub record Come (text empty ws : List ℕ) (s : State) (ls : List (List ℕ)) : Type 0 where
+  pub gives : run_text (step (charset_of empty)) begun text ≡ run_lines (step (charset_of empty)) ls (s.lines + 1) (standing ws s)
+  pub few : s.lines + length ls ≤ text_limit
   pub written : Written ws s.count
   pub beyond : drop pair_words ws ≡ drop pair_words empty
   pub same : length ws ≡ length empty
 
-pub come_first : (text empty : List ℕ) (s : State) → Written empty 0 → length text ≤ text_limit → s ≡ first_state → Come text empty empty s 0
+pub come_first : (text empty : List ℕ) (s : State) (ls : List (List ℕ)) → ls ≡ lines_of text → Written empty 0 → length text ≤ text_limit → s ≡ first_state
+    → Come text empty empty s ls
 unfolding definitions run_text stack
-come_first text empty s w short q =
-    rw q (record {
-      reached = record { within = omega arith; count = omega arith; left = rw (le-ltb _ _ short) };
-      written = w;
-      beyond = refl;
-      same = refl;
-    })
+come_first text empty s ls all w short q =
+    rw (q, all) (record { gives = rw (le-ltb _ _ short); few = omega (arith, lines_few text); written = w; beyond = refl; same = refl })
 
-module _ (text empty ws : List ℕ) (s : State) (at : ℕ) (here : Come text empty ws s at) where
+module _ (text empty ws : List ℕ) (s : State) (ls : List (List ℕ)) (here : Come text empty ws s ls) where
   abbrev steps : SoFar → List ℕ → Step SoFar
   steps = step (charset_of empty)
 
@@ -54,26 +50,24 @@ module _ (text empty ws : List ℕ) (s : State) (at : ℕ) (here : Come text emp
   beyond_stays : drop table_words ws ≡ drop table_words empty
   beyond_stays = same_beyond ws empty here.beyond
 
-  pub come_end : {r : Result ℕ Rejection} {last : List ℕ} → length text ≤ at → Settled (closing (accepted (standing ws s))) ws r last
+  pub come_end : {r : Result ℕ Rejection} {last : List ℕ} → ls ≡ [] → Settled (closing (accepted (standing ws s))) ws r last
       → Settled (compiled (charset_of empty) text) empty r last
   unfolding compiled
   come_end h t =
-      let gives = lines_read steps text (run_text steps begun text) at (s.lines + 1) (standing ws s) here.reached h in
+      let gives = lines_read steps (run_text steps begun text) ls (s.lines + 1) (standing ws s) here.gives h in
       record { answer = t.answer ∙ rw gives; column = t.column ∙ rw gives; words = t.words ∙ rw (gives, set_stays, beyond_stays) }
 
-  -- the next line ends at e, and leaves new
-  module _ (e : ℕ) (new : List ℕ) (some : at < length text) (ends : LineEnd text at e) where
-    abbrev line : List ℕ
-    line = take (e - at) (drop at text)
-
-    pub come_on : (t : State) → Leaves ws s (without_cr line) (Ok t) new → length new ≡ length ws → Come text empty new t (e + 1)
+  -- the next line leaves new
+  module _ (line : List ℕ) (more : List (List ℕ)) (next : ls ≡ line ∷ more) (new : List ℕ) where
+    pub come_on : (t : State) → Leaves ws s (without_cr line) (Ok t) new → length new ≡ length ws → Come text empty new t more
     come_on t left same =
         let does = rw set_stays at left.does in
         let counts = step_counts (charset_of empty) (standing ws s) (without_cr line) (sym does) in
         record {
-          reached = rw (← counts) at
-              (line_read steps text (run_text steps begun text) at (s.lines + 1) (standing ws s) here.reached e (Ok (standing new t)) some ends does
+          gives = rw (← counts) at
+              (line_read steps (run_text steps begun text) ls (s.lines + 1) (standing ws s) here.gives line more next (Ok (standing new t)) does
               (standing new t) refl);
+          few = omega (arith, ap length next, counts, here.few);
           written = left.written;
           beyond = left.beyond ∙ here.beyond;
           same = same ∙ here.same;
@@ -86,7 +80,7 @@ module _ (text empty ws : List ℕ) (s : State) (at : ℕ) (here : Come text emp
     unfolding compiled
     come_refused fault left c z =
         let does = rw set_stays at left.does in
-        let gives = line_refused steps text (run_text steps begun text) at (s.lines + 1) (standing ws s) here.reached e (Err fault) some ends does fault refl in
+        let gives = line_refused steps (run_text steps begun text) ls (s.lines + 1) (standing ws s) here.gives line more next (Err fault) does fault refl in
         rw c (record { answer = rw gives; column = rw gives; words = z ∙ rw (gives, same_beyond new ws left.beyond, beyond_stays) })
 
 -- ---- the end of the text

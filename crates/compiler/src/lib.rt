@@ -1,4 +1,5 @@
 // Compiling a text table: what a line does, and the compile call. Words and a count stand for the definitions so far.
+// A local character set is a number, as in `scalars`: callers name any.
 #![tactic(auto)]
 
 ghost use Rattle.std.specs.Prelude.{◌≡◌, ◌≤◌, ◌<◌, length};
@@ -123,21 +124,14 @@ fn read_lines(words: &mut [u32], text: &[u8]) -> Result<usize, Rejection>
         lines: 0,
         blocks: Blocks::new(),
     };
-    let mut at = 0;
-
-    // No `for`: where a line ends says where the next one begins. Each kind of table has such a loop over its own
-    // state; one for all would need a trait for what a line does to it.
-    while at < text.len() {
-        let end = lines::line_end(text, at);
-        let here = &text[at..end];
-        match step_line(words, state, here) {
+    for line in lines::lines_of(text) {
+        match step_line(words, state, line) {
             Ok(next) => state = next,
             Err(fault) => {
                 table::clear(words);
-                return Err(fault.in_line(here, state.lines + 1));
+                return Err(fault.in_line(line, state.lines + 1));
             }
         }
-        at = end + 1;
     }
     close(words, state)
 }

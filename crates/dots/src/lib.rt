@@ -1,4 +1,5 @@
-// Dots from the position of their first byte on: a cell, bare or in parentheses.
+// Dots from the position of their first byte on: a cell, bare or in parentheses. A line and a place in it are passed on
+// by themselves, as `lines::next_word` says.
 #![tactic(auto)]
 
 ghost use Rattle.std.specs.Prelude.{◌≡◌, ◌≤◌, ◌<◌, length, drop};

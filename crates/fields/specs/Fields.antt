@@ -1,7 +1,7 @@
 -- The fields of a case, and the numbers that they stand for.
-use Rattle.std.specs.Prelude.{ℕ, ◌+◌, ◌-◌, ◌*◌, ◌==◌, nat_lt, nat_le, if◌then◌else◌, List, length, take, drop, fold}
+use Rattle.std.specs.Prelude.{ℕ, ◌+◌, ◌-◌, ◌*◌, ◌%◌, ◌==◌, nat_lt, nat_le, if◌then◌else◌}
+use Rattle.std.specs.Prelude.{List, length, take, drop, fold}
 use Rattle.std.specs.List.{before_first, after_first, prefix_len, suffix_len}
-use Rattle.std.specs.Char.{digit_value}
 use Rattle.lines.specs.Words.{is_blank}
 
 -- without the blanks at the end, and without those at both ends
@@ -20,9 +20,9 @@ first_field mark line = trimmed (before_first (λ b. b == mark) line)
 abbrev pub behind_mark : ℕ → List ℕ → List ℕ
 behind_mark mark line = after_first (λ b. b == mark) line
 
--- the value of a digit in hex; 0 of any other byte
+-- the value of a digit in hex; below 16 of any other byte too
 abbrev pub hex_value : ℕ → ℕ
-hex_value b = if nat_lt (digit_value b) 16 then digit_value b else 0
+hex_value b = if nat_lt b 65 then b % 16 else (b % 16 + 9) % 16
 
 -- a number with one digit more; one that has eight digits stays
 abbrev pub with_digit : ℕ → ℕ → ℕ

@@ -3,7 +3,8 @@
 #![tactic(auto)]
 
 ghost use Rattle.std.specs.Prelude.{◌≡◌, ◌≤◌, ◌<◌, length, take, IfSome};
-ghost use Rattle.fields.specs.Fields.{trimmed, first_field, behind_mark, with_digit, number_of, window_number_of};
+ghost use Rattle.fields.specs.Fields.{trimmed, first_field, behind_mark, hex_value, with_digit, number_of};
+ghost use Rattle.fields.specs.Fields.{window_number_of};
 
 use answers::Text;
 
@@ -39,6 +40,18 @@ pub fn split(line: &[u8], mark: u8) -> (&[u8], &[u8])
     }
 }
 
+// The value of a digit in hex; some value below 16 of any other byte.
+fn hex_value(digit: u8) -> u8
+    ensures value { result ≡ hex_value digit }
+    ensures small { result < 16 }
+{
+    if digit < b'A' {
+        digit % 16
+    } else {
+        (digit % 16 + 9) % 16
+    }
+}
+
 // A number in hex with one digit more, unless it has eight digits.
 fn with_digit(n: u32, digit: u8) -> u32
     ensures { result ≡ with_digit n digit }
@@ -46,7 +59,7 @@ fn with_digit(n: u32, digit: u8) -> u32
     if 0x1000_0000 <= n {
         return n;
     }
-    n * 16 + char::from(digit).to_digit(16).unwrap_or(0)
+    n * 16 + u32::from(hex_value(digit))
 }
 
 // A number in hex; digits beyond those that fit do not count.
@@ -56,29 +69,36 @@ pub fn number(digits: &[u8]) -> u32
     digits.iter().fold(0, |n, digit| with_digit(n, *digit))
 }
 
-// The byte that a field begins with, itself or `%` and two digits, and what stands behind it.
+// The byte that a field begins with, itself or `%` and two digits, fewer where the field ends, and what stands behind
+// it.
 fn first_byte(field: &[u8]) -> Option<(u8, &[u8])>
     ensures { IfSome result (λ found. length found.1.now < length field.now) }
 {
+    // `as`, here and below: Rust has no `From` from `u32` to `u8` or `usize`; the remainder that is narrowed fits.
     match field {
         [] => None,
-        [b'%', high, low, rest @ ..] => Some(((number(&[*high, *low]) % 256) as u8, rest)),
+        [b'%', rest @ ..] => {
+            let (digits, behind) = rest.split_at(rest.len().min(2));
+            Some(((number(digits) % 256) as u8, behind))
+        }
         [byte, rest @ ..] => Some((*byte, rest)),
     }
 }
 
-// The piece that a field begins with, and what stands behind it: `%*` and four digits repeat the byte after, `%#` and
-// four digits ask for lines.
+// The piece that a field begins with, and what stands behind it: `%*` and four digits repeat the byte after, 0 where
+// there is none, `%#` and four digits ask for lines. Where the field ends there are fewer digits.
 fn first_piece(field: &[u8]) -> Option<(Piece, &[u8])>
     ensures { IfSome result (λ found. length found.1.now < length field.now) }
 {
-    if let [b'%', b'#', a, b, c, d, rest @ ..] = field {
-        let count = number(&[*a, *b, *c, *d]) as usize;
-        return Some((Piece::Lines { count }, rest));
+    if let [b'%', b'#', rest @ ..] = field {
+        let (digits, behind) = rest.split_at(rest.len().min(4));
+        let count = number(digits) as usize;
+        return Some((Piece::Lines { count }, behind));
     }
-    if let [b'%', b'*', a, b, c, d, rest @ ..] = field {
-        let count = number(&[*a, *b, *c, *d]) as usize;
-        let (byte, behind) = first_byte(rest)?;
+    if let [b'%', b'*', rest @ ..] = field {
+        let (digits, rest) = rest.split_at(rest.len().min(4));
+        let count = number(digits) as usize;
+        let (byte, behind) = first_byte(rest).unwrap_or((0, &[]));
         return Some((Piece::Bytes { byte, count }, behind));
     }
     let (byte, behind) = first_byte(field)?;
@@ -127,14 +147,14 @@ pub fn decode(field: &[u8], out: &mut [u8]) -> usize
     n
 }
 
-// Puts the numbers of a field, whose words are numbers for the next place, or `@` and the number of the next place;
-// answers the place behind the last.
+// Puts the numbers of a field, whose words are numbers for the next place, or `@` and the number of the next place, of
+// which eight digits count; answers the place behind the last.
 pub fn put_numbers(out: &mut [u32], field: &[u8]) -> usize {
     let mut place = 0;
     for word in field.split(|b| lines::is_blank(*b)) {
         match word {
             [] => {}
-            [b'@', digits @ ..] => place = number(digits) as usize,
+            [b'@', digits @ ..] => place = number(&digits[..digits.len().min(8)]) as usize,
             digits => {
                 if place < out.len() {
                     out[place] = number(digits);

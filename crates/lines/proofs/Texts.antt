@@ -9,8 +9,7 @@ use native.Mathlib.Nat.{add-zero}
 use native.Mathlib.Numerals.{add-one}
 use native.Mathlib.Omega.{arith}
 use lib.Dec.{eqb, ltb}
-use lib.ListN.{length, take, drop, length-drop, drop_of_length-le}
-use lib.Seq.{drop-drop}
+use lib.ListN.{length, take, drop}
 use borrow.Author.Tests.{ltb-true, ltb-false, lt-ltb, le-ltb}
 use Rattle.basics.specs.Choice.{pick}
 use Rattle.basics.proofs.Tests.{by_cases, either}
@@ -40,15 +39,6 @@ next_line : (d : List ℕ) → 0 < length d → lines_of d ≡ take (to_lf d) d 
 unfolding lines_of to_lf
 next_line [] h = absurd (omega arith)
 next_line (b ∷ bs) h = by_cases (eqb b LF) (λ q. rw q) (λ q. rw (q, byte_line_lem b bs, add-one (to_lf bs)))
-
--- a line ends at e, at its LF or at the end of the text: a loop that goes on at e + 1 reads no line twice
-line_next : (text : List ℕ) (at e : ℕ) → LineEnd text at e → at < length text
-    → lines_of (drop at text) ≡ take (e - at) (drop at text) ∷ lines_of (drop (e + 1) text)
-line_next text at e ends h =
-    let some : 0 < length (drop at text) = omega (arith, length-drop at text) in
-    let size : to_lf (drop at text) ≡ e - at = omega arith in
-    let up : at + suc (e - at) ≡ e + 1 = omega arith in
-    next_line (drop at text) some ∙ rw (size, drop-drop (suc (e - at)) at text, up)
 
 -- a text's first line, which ends at e, and the lines behind it, from m on
 pub first_line : (text : List ℕ) (e m : ℕ) → 0 < length text → LineEnd text 0 e → m ≡ min (e + 1) (length text)
@@ -116,28 +106,21 @@ pub refused_as : {S : Type 0} (whole : Outcome S) (here : List ℕ) (n : ℕ) (f
     → rejected e.refusal e.line e.column ≡ whole
 refused_as whole here n fault e q h = rw (q, h)
 
--- where a loop over the lines of a text has come to: what the text still gives, from the state s before line n, which begins at `at`
-pub record Reached {S : Type 0} (step : S → List ℕ → Step S) (text : List ℕ) (whole : Outcome S) (at n : ℕ) (s : S) : Type 0 where
-  pub within : at ≤ length text + 1
-  pub count : n ≤ at + 1
-  pub left : whole ≡ run_lines step (lines_of (drop at text)) n s
+-- a loop over the lines of a text: what it gives is what the lines that are left give, the first of them the n-th, from the state s
+module _ {S : Type 0} (step : S → List ℕ → Step S) (whole : Outcome S) (ls : List (List ℕ)) (n : ℕ) (s : S) (here : whole ≡ run_lines step ls n s) where
+  pub lines_read : ls ≡ [] → whole ≡ accepted s
+  unfolding run_lines
+  lines_read q = here ∙ rw q
 
-module _ {S : Type 0} (step : S → List ℕ → Step S) (text : List ℕ) (whole : Outcome S) (at n : ℕ) (s : S) (here : Reached step text whole at n s) where
-  -- no line is left
-  pub lines_read : length text ≤ at → whole ≡ accepted s
-  unfolding run_lines lines_of
-  lines_read h = here.left ∙ rw (drop_of_length-le text h)
-
-  -- the next line ends at e, and o is what was answered of it
-  module _ (e : ℕ) (o : Result S LineFault) (some : at < length text) (ends : LineEnd text at e)
-      (does : step_of o ≡ step s (without_cr (take (e - at) (drop at text)))) where
-    pub line_refused : (fault : LineFault) → o ≡ Err fault → whole ≡ outcome_of (rejection_of fault (take (e - at) (drop at text)) n)
+  -- o is what was answered of the next of them
+  module _ (line : List ℕ) (more : List (List ℕ)) (q : ls ≡ line ∷ more) (o : Result S LineFault) (does : step_of o ≡ step s (without_cr line)) where
+    pub line_refused : (fault : LineFault) → o ≡ Err fault → whole ≡ outcome_of (rejection_of fault line n)
     unfolding run_lines
-    line_refused fault q = here.left ∙ rw (line_next text at e ends some, ← does, q)
+    line_refused fault e = here ∙ rw (q, ← does, e)
 
-    pub line_read : (s' : S) → o ≡ Ok s' → Reached step text whole (e + 1) (n + 1) s'
+    pub line_read : (s' : S) → o ≡ Ok s' → whole ≡ run_lines step more (n + 1) s'
     unfolding run_lines
-    line_read s' q = record { within = omega arith; count = omega arith; left = here.left ∙ rw (line_next text at e ends some, ← does, q) }
+    line_read s' e = here ∙ rw (q, ← does, e)
 
 -- a text has no more lines than bytes
 pub lines_few : (text : List ℕ) → length (lines_of text) ≤ length text
@@ -170,28 +153,17 @@ module _ (text : List ℕ) (it e : Enumerate TextLines) (ls : TextLines) (is : i
   walk_first step s short = rw (le-ltb _ _ short, is, source, count, all)
 
 module _ {S : Type 0} (step : S → List ℕ → Step S) (whole : Outcome S) (it : Enumerate TextLines) (s : S) (here : Gives step whole it s) where
-  pub walk_end : lines_left (enumerate_source it) ≡ [] → whole ≡ accepted s
-  unfolding run_lines
-  walk_end q = here ∙ rw q
-
   -- the next line, the i-th from 0 on; o is what was answered of it
-  module _ (line : Bor (List ℕ)) (i : ℕ) (on : Enumerate TextLines)
-      (gives : enumerate_steps (YieldsFirstRef lines_left) it (Some (i, line)) on)
+  module _ (line : Bor (List ℕ)) (i : ℕ) (on : Enumerate TextLines) (gives : enumerate_steps (YieldsFirstRef lines_left) it (Some (i, line)) on)
       (o : Result S LineFault) (does : step_of o ≡ step s (without_cr line.now)) where
     pub walk_refused : (fault : LineFault) → o ≡ Err fault → whole ≡ outcome_of (rejection_of fault line.now (i + 1))
-    unfolding run_lines
-    walk_refused fault e = here ∙ rw (gives.0, gives.1, ← does, e)
+    walk_refused fault e = rw gives.1 (line_refused step whole _ _ s here line.now _ gives.0 o does fault e)
 
     pub walk_on : (s' : S) → o ≡ Ok s' → Gives step whole on s'
-    unfolding run_lines
-    walk_on s' e = here ∙ rw (gives.0, gives.2, ← does, e)
+    walk_on s' e = rw gives.2 (line_read step whole _ _ s here line.now _ gives.0 o does s' e)
 
--- before the first line; and a text that is too long, of which none is read
+-- a text that is too long, of which no line is read
 module _ {S : Type 0} (step : S → List ℕ → Step S) (s : S) (text : List ℕ) where
-  pub text_first : length text ≤ text_limit → Reached step text (run_text step s text) 0 1 s
-  unfolding run_text
-  text_first short = record { within = omega arith; count = omega arith; left = rw (le-ltb _ _ short) }
-
   pub text_long : text_limit < length text → run_text step s text ≡ rejected TextTooLong 0 0
   unfolding run_text
   text_long h = rw (lt-ltb _ _ h)

@@ -1,4 +1,5 @@
-// The operands of a directive: a character, a byte, dots, a cell.
+// The operands of a directive: a character, a byte, dots, a cell. A local character set is a number, as in `scalars`:
+// callers name any.
 #![tactic(auto)]
 
 ghost use Rattle.std.specs.Prelude.{◌≡◌, ◌≤◌, ◌<◌, length, IfOk, IfErr};
@@ -83,7 +84,8 @@ pub fn dots_operand_at(line: &[u8], at: usize) -> Result<Parsed<u8>, LineFault>
     })
 }
 
-// What begins at the next word from `at` on as a cell operand: as `dots_operand_at`, by another reader.
+// What begins at the next word from `at` on as a cell operand: as `dots_operand_at`, by another reader. One function
+// that takes the reader was tried: its contract, over what the reader answers, is longer than the body that it saves.
 #[tactic(auto, unfolding(crate::specs::Operands::cell_operand_at))]
 pub fn cell_operand_at(line: &[u8], at: usize) -> Result<Parsed<u8>, LineFault>
     requires { at ≤ length line.now }

@@ -38,6 +38,7 @@ impl Finder for Marked<'_, '_> {
         let Ok(place) = self.in_order.halve(character).place else {
             return None;
         };
+        // `as`, here and below: Rust has no `From` from `u32` to `usize`. Nothing is narrowed.
         let k = self.in_order.order[place] as usize;
         if self.limit <= k {
             return None;

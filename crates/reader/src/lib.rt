@@ -1,5 +1,6 @@
 // Reading a line of a text table: directives, conditions, operands. The pairs are the definitions of the lines before,
-// and their words say the local character set.
+// and their words say the local character set. A line and a place in it are passed on by themselves, as
+// `lines::next_word` says.
 #![tactic(auto)]
 
 ghost use Rattle.std.specs.Prelude.{◌≡◌, ◌≤◌, length, Ok};

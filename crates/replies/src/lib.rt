@@ -72,6 +72,7 @@ pub fn page_text<F: FnOnce(&[u32], &mut [u8], &mut [u8]) -> Result<(), Refused>>
     };
     let mut cells = [0xEE; 16];
     let mut rules = [0xEE; 16];
+    // `as`, here and below: Rust has no `From` from `u32` to `usize`. Nothing is narrowed.
     let cells = &mut cells[..*width as usize % 17];
     let rules = &mut rules[..*height as usize % 17];
     let answer = page(characters, &mut *cells, &mut *rules);

@@ -74,6 +74,7 @@ pub fn report(answer: Result<usize, Rejection>) -> Line
     match answer {
         Ok(count) => {
             text.push_bytes(b"accepted ");
+            // `as`, here and below: Rust has no `From` from `usize` to `u64`. Nothing is narrowed.
             text.push_decimal(count as u64);
         }
         Err(rejection) => {

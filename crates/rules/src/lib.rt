@@ -1,4 +1,4 @@
-// From a character to its cell: the nine rules.
+// From a character to its cell: the nine rules. A local character set is a number, as in `scalars`: callers name any.
 #![tactic(auto)]
 
 ghost use Rattle.std.specs.Prelude.{◌≡◌, ◌+◌, ◌<◌};

@@ -1,5 +1,5 @@
 // A compiled table: 2,050 words of a lent slice, two a definition, then the local character set and a zero. A count is
-// that of the pairs that count as definitions.
+// that of the pairs that count as definitions. The local character set is a number, as in `scalars`: callers name any.
 #![tactic(auto)]
 
 ghost use Rattle.std.specs.Prelude.{◌≡◌, [], ◌∷◌, ◌++◌, ◌+◌, ◌*◌, ◌≤◌, ◌<◌, length, drop, set, replicate, IfOk};
@@ -97,7 +97,8 @@ pub fn is_sound_pair(c: u32, w: u32) -> bool
 }
 
 // The bits that words have between them. The walk leaves only at its end, so that it is compiled to take several words
-// at a time. `utf8` has the same of bytes: one for both would need a trait for the or.
+// at a time. `utf8` has the same of bytes: one for both would need a law of
+// the library's `BitOr`, which has none for any type.
 #[tactic(auto, using(basics::proofs::Bits::bits_fold))]
 fn bits_of(words: &[u32]) -> u32
     ensures { result ≡ bits_of words.now }
@@ -123,8 +124,8 @@ pub fn zero_from(words: &[u32], count: usize, from: usize) -> Result<usize, usiz
 }
 
 // The check of the pairs: each against the earlier ones, left at the first repeat. It answers how many are definitions,
-// or the first pair at fault. The label is the form that the papers name for this check; `k` is read behind it, which a
-// `for` does not let.
+// or the first pair at fault. The label is the form that docs/DECISIONS.md, Forms, names for this check; `k` is read
+// behind it, which a `for` does not let.
 fn check_words(words: &[u32]) -> Result<usize, usize>
     requires { length words.now ≡ pair_words }
     ensures { result ≡ check_from [] words.now }

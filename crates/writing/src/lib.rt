@@ -55,6 +55,7 @@ pub fn put_bytes(buffer: &mut [u8], at: usize, text: &[u8]) -> usize
 fn hex_digit(n: u32) -> u8
     ensures { result ≡ hex_digit (n % 16) }
 {
+    // `as`, here and below: Rust has no `From` from `u32` to `u8` or `usize`; the remainder that is narrowed fits.
     match (n % 16) as u8 {
         d @ 0..=9 => b'0' + d,
         d => b'a' - 10 + d,

@@ -1,6 +1,5 @@
 use Rattle.std.proofs.Common.{sym, rules, arith, ap, length, inl}
-use Rattle.lines.proofs.Texts.{walk_short, walk_refused, walk_on, walk_end, refused_as}
-use Rattle.attributes.specs.Compile.{dot_step}
+use Rattle.lines.proofs.Texts.{walk_short, walk_refused, walk_on, lines_read, refused_as}
 use Rattle.attributes.proofs.Compile.{long_text, come_first}
 use Rattle.attributes.proofs.read_text.Goals as goal
 
@@ -31,4 +30,4 @@ returns-in-Err c =
     refused_as _ _ _ _ _ c.in_line.ensures (read _ c.after.ensures.states_value _ c.in-Err.is)
 
 pub returns : goal.returns
-returns c = sym (walk_end _ _ c.loop-i.i-iterator _ c.loop-i.invariant.0 c.in-None.ensures.steps.0.0)
+returns c = sym (lines_read _ _ _ _ _ c.loop-i.invariant.0 c.in-None.ensures.steps.0.0)

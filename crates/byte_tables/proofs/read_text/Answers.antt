@@ -1,5 +1,5 @@
 use Rattle.std.proofs.Common.{refl, sym, rules, arith, ap, length, Ok, Err, inl}
-use Rattle.lines.proofs.Texts.{walk_short, walk_refused, walk_on, walk_end, refused_as}
+use Rattle.lines.proofs.Texts.{walk_short, walk_refused, walk_on, lines_read, refused_as}
 use Rattle.byte_tables.proofs.Compile.{no_set, long_text, come_first}
 use Rattle.byte_tables.proofs.read_text.Goals as goal
 
@@ -35,4 +35,4 @@ returns-in-Err c =
     refused_as _ _ _ _ _ c.in_line.ensures (read (Err c.in-Err.fault) c.in-Err.ensures.does _ refl)
 
 pub returns : goal.returns
-returns c = sym (walk_end _ _ c.loop-i.i-iterator _ c.loop-i.invariant.0 c.in-None.ensures.steps.0.0)
+returns c = sym (lines_read _ _ _ _ _ c.loop-i.invariant.0 c.in-None.ensures.steps.0.0)

@@ -1,9 +1,6 @@
 use Rattle.std.proofs.Common.{rules}
-use Rattle.codes.proofs.WholeTables.{all_over, numbers_length, cells_more}
+use Rattle.codes.proofs.WholeTables.{cells_more}
 use Rattle.codes.proofs.put_cells.Goals as goal
 
 pub loop-byte-preserved : goal.loop-byte-preserved
 loop-byte-preserved c = (search rules, search cells_more)
-
-pub returns : goal.returns
-returns c = search (all_over, numbers_length)

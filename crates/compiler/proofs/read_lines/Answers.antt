@@ -2,16 +2,18 @@ use Rattle.std.proofs.Common.{rules}
 use Rattle.compiler.proofs.Call.{come_first, come_on, come_refused, come_end}
 use Rattle.compiler.proofs.read_lines.Goals as goal
 
-pub loop-at-init : goal.loop-at-init
-loop-at-init c = come_first _ _ _ c.requires.empty c.requires.short (rw c.new.ensures)
+pub loop-line-init : goal.loop-line-init
+loop-line-init c =
+    let all = c.lines_of-line-items.ensures in
+    come_first _ _ _ _ (rw c.into_iter-line-iterator.ensures.into_iter_gives all) c.requires.empty c.requires.short (rw c.new.ensures)
 
 pub returns-in-Err : goal.returns-in-Err
 returns-in-Err c =
-    come_refused _ _ _ c.loop-at.state _ c.loop-at.invariant _ _ c.loop-at-test.true c.line_end-end.ensures _ c.in-Err.ensures c.in_line.ensures c.clear.ensures
+    come_refused _ _ _ c.loop-line.state _ c.loop-line.invariant _ _ c.in-Some.ensures.steps _ _ c.in-Err.ensures c.in_line.ensures c.clear.ensures
 
-pub loop-at-preserved : goal.loop-at-preserved
-loop-at-preserved c =
-    come_on _ _ _ c.loop-at.state _ c.loop-at.invariant _ _ c.loop-at-test.true c.line_end-end.ensures _ c.in-Ok.ensures (search rules)
+pub loop-line-preserved : goal.loop-line-preserved
+loop-line-preserved c =
+    come_on _ _ _ c.loop-line.state _ c.loop-line.invariant _ _ c.in-Some.ensures.steps _ _ c.in-Ok.ensures (search rules)
 
 pub returns : goal.returns
-returns c = come_end _ _ _ c.loop-at.state _ c.loop-at.invariant c.loop-at-test.false c.close.ensures
+returns c = come_end _ _ _ c.loop-line.state _ c.loop-line.invariant c.in-None.ensures.steps.0 c.close.ensures

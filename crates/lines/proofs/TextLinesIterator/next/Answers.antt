@@ -1,6 +1,4 @@
-use Rattle.std.proofs.Common.{◌≡◌, ◌-◌, ◌∷◌, length, take, drop, rules, arith, ap}
-use Rattle.lines.specs.Lines.{lines_of}
-use Rattle.lines.specs.Internal.{lines_left}
+use Rattle.std.proofs.Common.{length, rules, arith, ap}
 use Rattle.lines.proofs.Texts.{first_line, no_line}
 use Rattle.lines.proofs.TextLinesIterator.next.Goals as goal
 
