@@ -15,7 +15,7 @@ use Rattle.attributes.specs.Compile.{dot_states, read_dot_line, with_dot, with_d
 use Rattle.attributes.specs.declared.DotStates.{DotStates}
 use Rattle.attributes.specs.declared.DotLine.{DotLine}
 
--- front is a line without its CR, read what was answered of it, x what the states after it
+-- front is a line without its CR, read what was answered of it
 module _ (f : DotStates) (line front : List ℕ) (read : Result (Option DotLine) LineFault) (c : front ≡ without_cr line) (e : read ≡ read_dot_line front) where
   step_read : {x : Step DotStates} → x ≡ with_dot_line f read → x ≡ dot_step f (without_cr line)
   unfolding dot_step

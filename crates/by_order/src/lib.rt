@@ -105,6 +105,7 @@ fn seek(in_order: &InOrder<'_>, c: u32) -> Sought
         (searched in_order.now.words.now in_order.now.order.now in_order.now.count c) }
 {
     let halved = in_order.halve(c);
+    // `as`: Rust has no `From` from `u32` to `usize`.
     let pair = match halved.place {
         Ok(place) => Some(in_order.order[place] as usize),
         Err(_) => None,

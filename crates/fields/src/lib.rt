@@ -147,8 +147,8 @@ pub fn decode(field: &[u8], out: &mut [u8]) -> usize
     n
 }
 
-// Puts the numbers of a field, whose words are numbers for the next place, or `@` and the number of the next place, of
-// which eight digits count; answers the place behind the last.
+// Puts the numbers of a field, as far as there is room. Its words are numbers for the next place, or `@` and the number
+// of the next place, of which eight digits count; answers the place behind the last.
 pub fn put_numbers(out: &mut [u32], field: &[u8]) -> usize {
     let mut place = 0;
     for word in field.split(|b| lines::is_blank(*b)) {
@@ -175,7 +175,7 @@ pub struct Numbers<const N: usize> {
 }
 
 impl<const N: usize> Numbers<N> {
-    // None where a field has more than `N`.
+    // None where the last `@` of a field leads beyond `N`; numbers that find no room are left out.
     pub fn read(field: &[u8]) -> Option<Numbers<N>> {
         let mut all = [0; N];
         let count = put_numbers(&mut all, field);

@@ -150,7 +150,7 @@ pub extern "C" fn heathdapple_byte_cells(set: u32, text: &[u8], cells: &mut [u8]
 }
 
 // Lists a table as text, a line a definition, at the front of `buffer`: the length of the text, or the refusal
-// with its place.
+// with its place. `as`, here and below: Rust has no `From` from `usize` to `u64`.
 #[unsafe(no_mangle)]
 pub extern "C" fn heathdapple_list(words: &[u32], buffer: &mut [u8]) -> u64
     ensures code { result ≡ count_code (listing_reply (listing_plan words.now (length buffer.old))) }

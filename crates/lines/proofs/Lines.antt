@@ -8,6 +8,7 @@ use Rattle.basics.proofs.Tests.{by_cases}
 use Rattle.utf8.proofs.Positions.{end_of, first_from, first_within}
 use Rattle.lines.specs.Lines.{LF, CR, without_cr}
 use Rattle.lines.specs.Internal.{to_lf, LineEnd}
+use Rattle.lines.specs.Texts.{column_of}
 
 to_lf_lem : (bs : List ℕ) → to_lf bs ≡ position_or_len (λ b. eqb b LF) bs
 unfolding to_lf
@@ -45,3 +46,7 @@ cr_short [] h = refl
 cr_short (b ∷ bs) h = absurd (omega arith)
 
 pub ruleset cr_cases = (cr_last, cr_none, cr_short)
+
+-- the column that is counted in a line without its CR, as `column_of` promises it
+pub column_at : (line front : List ℕ) (left : ℕ) {r : ℕ} → front ≡ without_cr line → r ≡ length front - left + 1 → r ≡ column_of (without_cr line) left
+column_at line front left e h = rw (← e) h

@@ -48,6 +48,7 @@ impl Order {
             return;
         }
         let (length, words) = fields::split(part, b'/');
+        // `as`: Rust has no `From` from `u32` to `usize`.
         self.length = fields::number(length) as usize % (ORDER + 1);
         fields::put_numbers(&mut self.words, words);
     }

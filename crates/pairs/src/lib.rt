@@ -36,8 +36,8 @@ pub trait Finder {
         ensures { result ≡ length (definitions self.now) };
 }
 
-// The pairs of some words that count as definitions. The words are as callers lend them, two a definition: rows of two
-// would be cut anew wherever words are read.
+// The pairs of some words that count as definitions. The words are as callers lend them, more than the pairs: behind
+// these stands the local character set.
 #[derive(Clone, Copy)]
 pub struct Pairs<'a> {
     pub words: &'a [u32],

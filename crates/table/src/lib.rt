@@ -97,8 +97,7 @@ pub fn is_sound_pair(c: u32, w: u32) -> bool
 }
 
 // The bits that words have between them. The walk leaves only at its end, so that it is compiled to take several words
-// at a time. `utf8` has the same of bytes: one for both would need a law of
-// the library's `BitOr`, which has none for any type.
+// at a time. `utf8` has the same of bytes: one for both would need a law of the library's `BitOr`, and it states none.
 #[tactic(auto, using(basics::proofs::Bits::bits_fold))]
 fn bits_of(words: &[u32]) -> u32
     ensures { result ≡ bits_of words.now }
