@@ -1,28 +1,32 @@
 -- Where a mark stands, and what is left of a field without its blanks.
 use Rattle.std.proofs.Common.{◌≡◌, refl, ℕ, ◌-◌, ◌≤◌, Bool, true, false, cond, List, length, take, drop, reverse, ltb, ap, sym, ◌∙◌, true≢false}
 use Rattle.std.proofs.Common.{unwrap_or, Option, None, Some, is_some}
-use Rattle.std.specs.List.{position, position_or_len, prefix_len}
+use Rattle.std.specs.Prelude.{◌==◌}
+use Rattle.std.specs.List.{position_or_len, prefix_len}
 use Rattle.std.proofs.lemmas.List.{take_rest}
 use Rattle.std.proofs.lemmas.List.Folds.{length-prefix_len}
 use borrow.Author.Tests.{ltb-false}
 use Rattle.lines.specs.Words.{is_blank}
-use Rattle.fields.specs.Fields.{end_trimmed, trimmed}
+use Rattle.fields.specs.Fields.{mark_place, end_trimmed, trimmed}
 
-module _ (p : ℕ → Bool) (line : List ℕ) where
-  pub mark_at : (end : ℕ) → position p line ≡ Some end → position_or_len p line ≡ end
-  mark_at end = go (ltb (position_or_len p line) (length line))
+module _ (mark : ℕ) (line : List ℕ) where
+  -- how many bytes stand before the mark, or all
+  abbrev before : ℕ
+  before = position_or_len (λ b. b == mark) line
+
+  pub mark_at : (end : ℕ) → mark_place mark line ≡ Some end → before ≡ end
+  mark_at end = go (ltb before (length line))
     where
-      go : (b : Bool) → cond b (Some (position_or_len p line)) None ≡ Some end → position_or_len p line ≡ end
+      go : (b : Bool) → cond b (Some before) None ≡ Some end → before ≡ end
       go true e = ap (λ (o : Option ℕ). unwrap_or o end) e
       go false e = absurd (true≢false (ap is_some (sym e)))
 
-  pub mark_none : position p line ≡ None → length line ≤ position_or_len p line
-  mark_none = go (ltb (position_or_len p line) (length line)) refl
+  pub mark_none : mark_place mark line ≡ None → length line ≤ before
+  mark_none = go (ltb before (length line)) refl
     where
-      go : (b : Bool) → ltb (position_or_len p line) (length line) ≡ b → cond b (Some (position_or_len p line)) None ≡ None
-          → length line ≤ position_or_len p line
+      go : (b : Bool) → ltb before (length line) ≡ b → cond b (Some before) None ≡ None → length line ≤ before
       go true t e = absurd (true≢false (ap is_some e))
-      go false t e = ltb-false (position_or_len p line) (length line) t
+      go false t e = ltb-false before (length line) t
 
 pub trimmed_kept :
     (field front : List ℕ) (behind before : ℕ)

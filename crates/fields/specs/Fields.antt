@@ -1,7 +1,7 @@
 -- The fields of a case, and the numbers that they stand for.
 use Rattle.std.specs.Prelude.{ℕ, ◌+◌, ◌-◌, ◌*◌, ◌%◌, ◌==◌, nat_lt, nat_le, if◌then◌else◌}
-use Rattle.std.specs.Prelude.{List, length, take, drop, fold}
-use Rattle.std.specs.List.{before_first, after_first, prefix_len, suffix_len}
+use Rattle.std.specs.Prelude.{List, Option, length, take, drop, fold}
+use Rattle.std.specs.List.{position, before_first, after_first, prefix_len, suffix_len}
 use Rattle.lines.specs.Words.{is_blank}
 
 -- without the blanks at the end, and without those at both ends
@@ -12,6 +12,10 @@ abbrev pub trimmed : List ℕ → List ℕ
 trimmed field =
     let front : List ℕ = end_trimmed field in
     drop (prefix_len is_blank front) front
+
+-- where the first mark stands
+abbrev pub mark_place : ℕ → List ℕ → Option ℕ
+mark_place mark line = position (λ b. b == mark) line
 
 -- the first field of a line, and what stands behind its mark: nothing where there is none
 abbrev pub first_field : ℕ → List ℕ → List ℕ

@@ -3,8 +3,8 @@
 #![tactic(auto)]
 
 ghost use Rattle.std.specs.Prelude.{◌≡◌, ◌≤◌, ◌<◌, length, take, IfSome};
-ghost use Rattle.fields.specs.Fields.{trimmed, first_field, behind_mark, hex_value, with_digit, number_of};
-ghost use Rattle.fields.specs.Fields.{window_number_of};
+ghost use Rattle.fields.specs.Fields.{trimmed, mark_place, first_field, behind_mark};
+ghost use Rattle.fields.specs.Fields.{hex_value, with_digit, number_of, window_number_of};
 
 use answers::Text;
 
@@ -29,12 +29,19 @@ fn without_blanks(field: &[u8]) -> &[u8]
     &front[before..]
 }
 
+// Where the first mark stands.
+fn mark_place(line: &[u8], mark: u8) -> Option<usize>
+    ensures { result ≡ mark_place mark line.now }
+{
+    line.iter().position(|b| *b == mark)
+}
+
 // The first field, without the blanks at both ends, and what stands behind its mark.
 pub fn split(line: &[u8], mark: u8) -> (&[u8], &[u8])
     ensures field { result.0.now ≡ first_field mark line.now }
     ensures behind { result.1.now ≡ behind_mark mark line.now }
 {
-    match line.iter().position(|b| *b == mark) {
+    match mark_place(line, mark) {
         Some(end) => (without_blanks(&line[..end]), &line[end + 1..]),
         None => (without_blanks(line), &[]),
     }
