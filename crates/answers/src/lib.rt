@@ -1,30 +1,24 @@
 // The text of an answer, in fixed memory. What goes beyond 256 bytes is left out, so that no caller has to show room.
 #![tactic(auto)]
 
-ghost use Rattle.std.specs.Prelude.{◌≡◌, ℕ, ◌≤◌, List, [], ◌∷◌, ◌++◌, take, flat_map, encode_utf8, Some};
+ghost use Rattle.std.specs.Prelude.{◌≡◌, ◌≤◌, [], ◌∷◌, ◌++◌, take, flat_map, encode_utf8, Some};
 
 use std::fmt;
 use std::fmt::{Display, Write};
-use std::marker::Model;
 
 // The first `length` of the bytes.
-#[derive(Drop)]
+#[derive(Clone, Copy)]
 pub struct Text {
     bytes: [u8; 256],
     length: usize,
-}
-
-impl Model for Text {
-    ghost Value = { List ℕ };
-
-    ghost view = { λ text. take text.length text.bytes };
-
-    ghost invariant = { λ text. text.length ≤ 256 };
+    ghost within: { length ≤ 256 },
 }
 
 impl Text {
+    ghost use Rattle.answers.specs.Texts.{bytes_of};
+
     pub fn new() -> Text
-        ensures { result ≡ [] }
+        ensures { bytes_of result ≡ [] }
     {
         Text {
             bytes: [0; 256],
@@ -40,14 +34,14 @@ impl Text {
     }
 
     pub fn push(&mut self, byte: u8)
-        ensures { self.new ≡ take 256 (self.old ++ byte ∷ []) }
+        ensures { bytes_of self.new ≡ take 256 (bytes_of self.old ++ byte ∷ []) }
     {
         self.push_bytes(&[byte]);
     }
 
     #[tactic(auto, using(crate::proofs::Texts::text_more))]
     pub fn push_bytes(&mut self, more: &[u8])
-        ensures { self.new ≡ take 256 (self.old ++ more.now) }
+        ensures { bytes_of self.new ≡ take 256 (bytes_of self.old ++ more.now) }
     {
         let room = self.bytes.len() - self.length;
         let count = more.len().min(room);
@@ -57,14 +51,16 @@ impl Text {
     }
 
     pub fn as_bytes(&self) -> &[u8]
-        ensures { result.now ≡ self.now }
+        ensures { result.now ≡ bytes_of self.now }
     {
         &self.bytes[..self.length]
     }
 }
 
 impl Write for Text {
-    ghost write_str_gives = { λ old bytes new. new ≡ take 256 (old ++ bytes) };
+    ghost use Rattle.answers.specs.Texts.{bytes_of};
+
+    ghost write_str_gives = { λ old bytes new. bytes_of new ≡ take 256 (bytes_of old ++ bytes) };
 
     fn write_str(&mut self, s: &str) -> fmt::Result {
         self.push_bytes(s.as_bytes());
@@ -74,7 +70,9 @@ impl Write for Text {
 
 // A text is printed byte by byte, as ASCII.
 impl Display for Text {
-    ghost output = { λ text. Some (flat_map encode_utf8 text) };
+    ghost use Rattle.answers.specs.Texts.{bytes_of};
+
+    ghost output = { λ text. Some (flat_map encode_utf8 (bytes_of text)) };
 
     fn fmt<W: Write>(&self, f: &mut fmt::Formatter<W>) -> fmt::Result {
         for byte in self.as_bytes() {

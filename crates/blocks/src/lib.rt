@@ -115,10 +115,10 @@ impl Blocks {
         }
     }
 
-    // The open blocks after a line of that number.
-    pub fn after(mut self, line: BlockLine, number: usize) -> Blocks
-        requires { RoomFor (depth_limit - self.depth) line }
-        ensures { Changed self line number result }
+    // Takes a line of that number.
+    pub fn take_line(&mut self, line: BlockLine, number: usize)
+        requires { RoomFor (depth_limit - self.old.depth) line }
+        ensures { Changed self.old line number self.new }
     {
         match line {
             BlockLine::Open { first, second } => {
@@ -140,6 +140,14 @@ impl Blocks {
             }
             BlockLine::EndIf => self.depth = self.depth.saturating_sub(1),
         }
+    }
+
+    // The open blocks after a line of that number.
+    pub fn after(mut self, line: BlockLine, number: usize) -> Blocks
+        requires { RoomFor (depth_limit - self.depth) line }
+        ensures { Changed self line number result }
+    {
+        self.take_line(line, number);
         self
     }
 

@@ -20,6 +20,7 @@ rules_of look cs = map (λ (c : ℕ). (look c).rule) cs
 abbrev pub shown_of : (ℕ → Answer) → ℕ → Shown
 shown_of look c = record { character = c; cell = (look c).cell; rule = (look c).rule }
 
--- what is kept is shown so for its character
-abbrev pub IsShown : (ℕ → Answer) → Shown → Type 0
-IsShown look kept = kept ≡ shown_of look kept.character
+-- what is kept for some characters is what is shown for them
+pub record Kept (look : ℕ → Answer) (seen cells rules : List ℕ) : Type 0 where
+  pub cells_right : cells ≡ cells_of look seen
+  pub rules_right : rules ≡ rules_of look seen

@@ -2,7 +2,6 @@
 #![tactic(auto)]
 
 ghost use Rattle.std.specs.Prelude.{◌≡◌, ◌≤◌, length};
-ghost use Rattle.std.specs.List.{All};
 ghost use Rattle.basics.specs.Refusals.{reply_of};
 ghost use Rattle.basics.specs.Buffers.{over};
 ghost use Rattle.pairs.specs.Words.{charset_of};
@@ -12,7 +11,7 @@ ghost use Rattle.rules.specs.Internal.{lookup_by};
 ghost use Rattle.order.specs.Order.{searched};
 ghost use Rattle.lookup.specs.Calls.{LentLinks, Pages};
 ghost use Rattle.by_order.specs.Calls.{Builds, ordered_lookup, ordered_plan, sought_of, search_reply};
-ghost use Rattle.by_order.specs.Internal.{plain, cells_of, rules_of, shown_of, IsShown};
+ghost use Rattle.by_order.specs.Internal.{plain, cells_of, rules_of, shown_of, Kept};
 
 use basics::{Refusal, Refused};
 use definitions::DEFINITION_LIMIT;
@@ -36,26 +35,18 @@ struct Shown {
     rule: u8,
 }
 
-// Answers that a page has had, each in the slot of its character; a later character takes a slot over.
+// Answers that a page has had, each in the slot of its character; a later character takes a slot over. An array each of
+// characters, cells and rules takes 24 KB, where one of `Shown` takes 32, and begins by filling bytes.
 #[derive(Drop)]
 struct Memory<T: Finder + Copy> {
     by: Rules<T>,
-    kept: [Shown; SLOTS],
-    ghost right: { All (IsShown (lookup_by by.charset (table (T.definitions by.finder)) by.last)) kept },
+    seen: [u32; SLOTS],
+    cells: [u8; SLOTS],
+    rules: [u8; SLOTS],
+    ghost right: { Kept (lookup_by by.charset (table (T.definitions by.finder)) by.last) seen cells rules },
 }
 
 impl<T: Finder + Copy> Memory<T> {
-    // Each slot begins with the character U+0000.
-    fn new(by: Rules<T>) -> Memory<T>
-        ensures { result.by ≡ by }
-    {
-        let first = shown_by(&by, 0);
-        Memory {
-            by,
-            kept: [first; SLOTS],
-        }
-    }
-
     // What is shown for a character: as it is kept, or by the rules, and then kept.
     fn recall(&mut self, character: u32) -> Shown
         ensures same { self.new.by ≡ self.old.by }
@@ -64,12 +55,17 @@ impl<T: Finder + Copy> Memory<T> {
             character }
     {
         let slot = ordered::slot_of(character);
-        let kept = self.kept[slot];
-        if kept.character == character {
-            return kept;
+        if self.seen[slot] == character {
+            return Shown {
+                character,
+                cell: self.cells[slot],
+                rule: self.rules[slot],
+            };
         }
         let shown = shown_by(&self.by, character);
-        self.kept[slot] = shown;
+        self.seen[slot] = character;
+        self.cells[slot] = shown.cell;
+        self.rules[slot] = shown.rule;
         shown
     }
 }
@@ -201,7 +197,15 @@ fn fill_by(in_order: &InOrder<'_>, characters: &[u32], cells: &mut [u8], rules: 
         limit: in_order.count,
     };
     let by = Rules::new(finder, table::charset_of(in_order.words));
-    let mut memory = Memory::new(by);
+    // Each slot begins with the character U+0000. The memory is made where it stays: a function that hands it back
+    // copies it.
+    let first = shown_by(&by, 0);
+    let mut memory = Memory {
+        by,
+        seen: [0; SLOTS],
+        cells: [first.cell; SLOTS],
+        rules: [first.rule; SLOTS],
+    };
     fill_kept(&mut memory, characters, cells, rules);
 }
 

@@ -59,7 +59,7 @@ module _ (text empty ws : List ℕ) (s : State) (ls : List (List ℕ)) (here : C
 
   -- the next line leaves new
   module _ (line : List ℕ) (more : List (List ℕ)) (next : ls ≡ line ∷ more) (new : List ℕ) where
-    pub come_on : (t : State) → Leaves ws s (without_cr line) (Ok t) new → length new ≡ length ws → Come text empty new t more
+    pub come_on : (t : State) → Leaves ws s (without_cr line) (Ok tt) t new → length new ≡ length ws → Come text empty new t more
     come_on t left same =
         let does = rw set_stays at left.does in
         let counts = step_counts (charset_of empty) (standing ws s) (without_cr line) (sym does) in
@@ -74,14 +74,14 @@ module _ (text empty ws : List ℕ) (s : State) (ls : List (List ℕ)) (here : C
         }
 
     -- the words are zeroed
-    pub come_refused : (fault : LineFault) → Leaves ws s (without_cr line) (Err fault) new → {rejection : Rejection} {last : List ℕ}
-        → rejection ≡ rejection_of fault line (s.lines + 1)
+    pub come_refused : (fault : LineFault) → {t : State} → Leaves ws s (without_cr line) (Err fault) t new → t ≡ s
+        → {rejection : Rejection} {last : List ℕ} → rejection ≡ rejection_of fault line (t.lines + 1)
         → last ≡ replicate table_words 0 ++ drop table_words new → Settled (compiled (charset_of empty) text) empty (Err rejection) last
     unfolding compiled
-    come_refused fault left c z =
+    come_refused fault left same c z =
         let does = rw set_stays at left.does in
         let gives = line_refused steps (run_text steps begun text) ls (s.lines + 1) (standing ws s) here.gives line more next (Err fault) does fault refl in
-        rw c (record { answer = rw gives; column = rw gives; words = z ∙ rw (gives, same_beyond new ws left.beyond, beyond_stays) })
+        rw (c, same) (record { answer = rw gives; column = rw gives; words = z ∙ rw (gives, same_beyond new ws left.beyond, beyond_stays) })
 
 -- ---- the end of the text
 

@@ -97,11 +97,11 @@ module _ (ws : List ℕ) (s : State) (w : Written ws s.count) (line : List ℕ) 
   abbrev Does : Result Reading LineFault → Type 0
   Does r = r ≡ line_effect (charset_of ws) (definitions s.count ws) (blocks_of s.blocks) line
 
-  pub leaves_refused : (fault : LineFault) → Does (Err fault) → Leaves ws s line (Err fault) ws
+  pub leaves_refused : (fault : LineFault) → Does (Err fault) → Leaves ws s line (Err fault) s ws
   unfolding step
   leaves_refused fault e = record { does = rw (← e); written = w; beyond = refl }
 
-  pub leaves_skipped : Does (Ok NoEffect) → Leaves ws s line (Ok (record { count = s.count; lines = s.lines + 1; blocks = s.blocks })) ws
+  pub leaves_skipped : Does (Ok NoEffect) → Leaves ws s line (Ok tt) (record { count = s.count; lines = s.lines + 1; blocks = s.blocks }) ws
   unfolding step
   leaves_skipped e = record { does = rw (← e); written = w; beyond = refl }
 
@@ -110,7 +110,7 @@ module _ (ws : List ℕ) (s : State) (w : Written ws s.count) (line : List ℕ) 
     had_room = rw (room_left s.blocks) at (effect_had_room (charset_of ws) (definitions s.count ws) (blocks_of s.blocks) line (sym e))
 
     pub leaves_changed : {new : Blocks} → Changed s.blocks read (s.lines + 1) new
-        → Leaves ws s line (Ok (record { count = s.count; lines = s.lines + 1; blocks = new })) ws
+        → Leaves ws s line (Ok tt) (record { count = s.count; lines = s.lines + 1; blocks = new }) ws
     unfolding step
     leaves_changed h = record { does = rw (← e, h.blocks, h.starts); written = w; beyond = refl }
 
@@ -133,7 +133,7 @@ module _ (ws : List ℕ) (s : State) (w : Written ws s.count) (line : List ℕ) 
     put_small = (store_fits ws s.count w d room fits).1
 
     pub leaves_stored : {new : List ℕ} → new ≡ stored ws s.count d
-        → Leaves ws s line (Ok (record { count = s.count + 1; lines = s.lines + 1; blocks = s.blocks })) new
+        → Leaves ws s line (Ok tt) (record { count = s.count + 1; lines = s.lines + 1; blocks = s.blocks }) new
     unfolding step
     leaves_stored z =
         rw z (record {

@@ -18,20 +18,16 @@ standing ws s = so_far (definitions s.count ws) (blocks_of s.blocks) (starts_of 
 abbrev pub first_state : State
 first_state = record { count = 0; lines = 0; blocks = no_blocks }
 
--- what words and the answer to a line stand for
-abbrev pub stepped : List ℕ → Result State LineFault → Step SoFar
-stepped ws (Ok s) = next (standing ws s)
-stepped ws (Err fault) = stop fault.refusal fault.left
-
--- the state that is left: a refused line leaves the one before it
-abbrev pub state_after : State → Result State LineFault → State
-state_after s (Ok t) = t
-state_after s (Err fault) = s
+-- what words and the state after a line stand for, by what a call that takes the line answers; a fault stands
+abbrev pub stepped : List ℕ → Result Unit LineFault → State → Step SoFar
+stepped ws (Ok u) s = next (standing ws s)
+stepped ws (Err fault) s = stop fault.refusal fault.left
 
 -- what a line leaves, from the words and the state before it
-pub record Leaves (old : List ℕ) (s : State) (line : List ℕ) (r : Result State LineFault) (new : List ℕ) : Type 0 where
-  pub does : stepped new r ≡ step (charset_of old) (standing old s) line
-  pub written : Written new (state_after s r).count
+pub record Leaves (old : List ℕ) (s : State) (line : List ℕ) (r : Result Unit LineFault) (t : State) (new : List ℕ)
+    : Type 0 where
+  pub does : stepped new r t ≡ step (charset_of old) (standing old s) line
+  pub written : Written new t.count
   pub beyond : drop pair_words new ≡ drop pair_words old
 
 -- the answer, its column, and the words, by what a text gives

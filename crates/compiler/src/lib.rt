@@ -2,7 +2,7 @@
 // A local character set is a number, as in `scalars`: callers name any.
 #![tactic(auto)]
 
-ghost use Rattle.std.specs.Prelude.{◌≡◌, ◌≤◌, ◌<◌, length};
+ghost use Rattle.std.specs.Prelude.{◌≡◌, ◌≤◌, ◌<◌, length, OnErr};
 ghost use Rattle.lines.specs.Lines.{without_cr};
 ghost use Rattle.lines.specs.Texts.{text_limit, accepted, compiled_reply, compiled_column};
 ghost use Rattle.blocks.specs.Internal.{blocks_of};
@@ -42,63 +42,55 @@ fn effect_of(pairs: Pairs<'_>, reading: Reading) -> Result<Reading, LineFault>
 // What a line, without its end, does: its first fault, nothing, the definition that takes effect, or what it does to
 // the open blocks.
 #[tactic(auto, unfolding(crate::specs::Compile::line_effect))]
-fn line_effect(pairs: Pairs<'_>, blocks: Blocks, line: &[u8]) -> Result<Reading, LineFault>
+fn line_effect(pairs: Pairs<'_>, blocks: &Blocks, line: &[u8]) -> Result<Reading, LineFault>
     ensures { result
-        ≡ line_effect (charset_of pairs.entry.words.now) (known pairs.entry) (blocks_of blocks) line.now }
+        ≡ line_effect (charset_of pairs.entry.words.now) (known pairs.entry) (blocks_of blocks.now) line.now }
 {
     let reading = reader::read_line(pairs, blocks.around(), line)?;
     effect_of(pairs, reading)
 }
 
-// The words and the state after one line more, without its end. Both are passed on by themselves: a struct that holds a
-// lent buffer has to promise in each contract that it still holds the same one.
-fn take_line(words: &mut [u32], state: State, line: &[u8]) -> Result<State, LineFault>
-    requires written { Written words.old state.count }
-    requires few { state.lines < text_limit }
-    ensures { Leaves words.old state line.now result words.new }
+// Takes one line more, without its end, into the words and the state; one that is refused changes neither. Both are
+// passed on by themselves: a struct that holds a lent buffer has to promise in each contract that it still holds the
+// same one. The state is lent, since it is too large to be copied at each line.
+fn take_line(words: &mut [u32], state: &mut State, line: &[u8]) -> Result<(), LineFault>
+    requires written { Written words.old state.old.count }
+    requires few { state.old.lines < text_limit }
+    ensures leaves { Leaves words.old state.old line.now result state.new words.new }
+    ensures same { OnErr result (state.new ≡ state.old) }
 {
     let so_far = Pairs {
         words: &*words,
         count: state.count,
     };
-    let reading = line_effect(so_far, state.blocks, line)?;
-    let lines = state.lines + 1;
+    let reading = line_effect(so_far, &state.blocks, line)?;
+    state.lines += 1;
     match reading {
-        Reading::NoEffect => Ok(State { lines, ..state }),
-        Reading::Block(read) => {
-            let blocks = state.blocks.after(read, lines);
-            Ok(State {
-                lines,
-                blocks,
-                ..state
-            })
-        }
+        Reading::NoEffect => {}
+        Reading::Block(read) => state.blocks.take_line(read, state.lines),
         Reading::Define(d, _) => {
             table::put(words, state.count, d);
-            let count = state.count + 1;
-            Ok(State {
-                count,
-                lines,
-                ..state
-            })
+            state.count += 1;
         }
     }
+    Ok(())
 }
 
 // The same of a line with its CR, if it has one.
-fn step_line(words: &mut [u32], state: State, line: &[u8]) -> Result<State, LineFault>
-    requires written { Written words.old state.count }
-    requires few { state.lines < text_limit }
-    ensures { Leaves words.old state (without_cr line.now) result words.new }
+fn step_line(words: &mut [u32], state: &mut State, line: &[u8]) -> Result<(), LineFault>
+    requires written { Written words.old state.old.count }
+    requires few { state.old.lines < text_limit }
+    ensures leaves { Leaves words.old state.old (without_cr line.now) result state.new words.new }
+    ensures same { OnErr result (state.new ≡ state.old) }
 {
     take_line(words, state, lines::without_cr(line))
 }
 
 // The answer after all lines: where a block is open, it is refused at the line that opened the innermost, and the words
 // are zeroed.
-fn close(words: &mut [u32], state: State) -> Result<usize, Rejection>
-    requires { Written words.old state.count }
-    ensures { Settled (closing (accepted (standing words.old state))) words.old result words.new }
+fn close(words: &mut [u32], state: &State) -> Result<usize, Rejection>
+    requires { Written words.old state.now.count }
+    ensures { Settled (closing (accepted (standing words.old state.now))) words.old result words.new }
 {
     match state.blocks.innermost() {
         None => Ok(state.count),
@@ -125,15 +117,12 @@ fn read_lines(words: &mut [u32], text: &[u8]) -> Result<usize, Rejection>
         blocks: Blocks::new(),
     };
     for line in lines::lines_of(text) {
-        match step_line(words, state, line) {
-            Ok(next) => state = next,
-            Err(fault) => {
-                table::clear(words);
-                return Err(fault.in_line(line, state.lines + 1));
-            }
+        if let Err(fault) = step_line(words, &mut state, line) {
+            table::clear(words);
+            return Err(fault.in_line(line, state.lines + 1));
         }
     }
-    close(words, state)
+    close(words, &state)
 }
 
 // Compiles a text table: any set, any bytes, any slice.

@@ -107,8 +107,8 @@ front_of charset ds room line =
     if_some (directive_of (bytes_of line w)) (fault UnknownDirective (length line - w.start))
     (λ directive. after_directive charset ds room line directive w.end (length line - w.start))
 
--- behind a failed condition, or inside lines not taken: the whole line must be well formed, nothing is defined, and of
--- a block that opens neither half is taken
+-- what a well formed line does behind a failed condition, or inside lines not taken: nothing is defined, and of a block
+-- that opens neither half is taken; a fault is no reading, and stands in `read_from` and `read_first`
 abbrev pub without_effect : Reading → Reading
 without_effect NoEffect = NoEffect
 without_effect (Define definition left) = NoEffect

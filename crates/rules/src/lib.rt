@@ -113,7 +113,7 @@ impl<T: Finder> Rules<T> {
 
 // Rules 7 to 9.
 #[tactic(auto, using(basics::proofs::Tests::on_value), unfolding(crate::specs::Rules::choose))]
-fn last_rules(last: LastCells, links: usize) -> Answer
+pub fn last_rules(last: LastCells, links: usize) -> Answer
     ensures { result ≡ choose 7 (last_candidates last) links }
 {
     if let Some(cell) = last.replacement {
@@ -139,7 +139,7 @@ fn last_rules(last: LastCells, links: usize) -> Answer
 
 // Rules 3 and 4, for a walk with that cell at its end.
 #[tactic(auto, using(basics::proofs::Tests::tests))]
-fn walk_rules(cell: u8, links: usize) -> Answer
+pub fn walk_rules(cell: u8, links: usize) -> Answer
     ensures { result ≡ walk_answer cell links }
 {
     let rule = if links == 0 { 3 } else { 4 };
@@ -148,7 +148,7 @@ fn walk_rules(cell: u8, links: usize) -> Answer
 
 // What the other rules answer, as rule 2 passes it on for the character `c`.
 #[tactic(auto, using(crate::proofs::Choices::private_passed, crate::proofs::Choices::other_passed))]
-fn passed_on(c: u32, others: Answer) -> Answer
+pub fn passed_on(c: u32, others: Answer) -> Answer
     requires { others.rule + 16 < 256 }
     ensures { result ≡ passed (is_private c) others }
 {

@@ -128,28 +128,11 @@ pub fn local_of(charset: u32, c: u32) -> u32
     }
 }
 
-// The base characters: first character, last character, and the base of all between.
-const BASES: [(u32, u32, u32); 17] = [
-    (0xC0, 0xC5, 0x41),
-    (0xC7, 0xC7, 0x43),
-    (0xC8, 0xCB, 0x45),
-    (0xCC, 0xCF, 0x49),
-    (0xD1, 0xD1, 0x4E),
-    (0xD2, 0xD6, 0x4F),
-    (0xD9, 0xDC, 0x55),
-    (0xDD, 0xDD, 0x59),
-    (0xE0, 0xE5, 0x61),
-    (0xE7, 0xE7, 0x63),
-    (0xE8, 0xEB, 0x65),
-    (0xEC, 0xEF, 0x69),
-    (0xF1, 0xF1, 0x6E),
-    (0xF2, 0xF6, 0x6F),
-    (0xF9, 0xFC, 0x75),
-    (0xFD, 0xFD, 0x79),
-    (0xFF, 0xFF, 0x79),
-];
+// The base characters of U+00C0 to U+00FF, a blank where there is none: one look for a character, where rows of ranges
+// took up to seventeen.
+const BASES: [u8; 64] = *b"AAAAAA CEEEEIIII NOOOOO  UUUUY  aaaaaa ceeeeiiii nooooo  uuuuy y";
 
-// The ASCII stand-ins, by such rows.
+// The ASCII stand-ins: first character, last character, and what stands for all between.
 const STAND_INS: [(u32, u32, u32); 10] = [
     (0xA0, 0xA0, 0x20),
     (0xC6, 0xC6, 0x41),
@@ -178,7 +161,11 @@ pub fn base_of(c: u32) -> Option<u32>
     ensures { result ≡ base_of c }
 {
     match c {
-        0xC0..=0xFF => stands_for(&BASES, c),
+        // `as`: Rust has no `From` from `u32` to `usize`. Nothing is narrowed.
+        0xC0..=0xFF => match BASES[(c - 0xC0) as usize] {
+            b' ' => None,
+            base => Some(u32::from(base)),
+        },
         _ => None,
     }
 }

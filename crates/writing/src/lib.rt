@@ -1,30 +1,21 @@
 // Numbers and cells as text, and texts put into a lent buffer, each at a place; the answer is the place behind it.
 #![tactic(auto)]
 
-ghost use Rattle.std.specs.Prelude.{◌≡◌, ℕ, List, [], ◌∷◌, ◌+◌, ◌≤◌, ◌%◌, length, take};
+ghost use Rattle.std.specs.Prelude.{◌≡◌, [], ◌∷◌, ◌+◌, ◌≤◌, ◌%◌, length, take};
 ghost use Rattle.writing.specs.Writing.{hex_digit, hex_digits, raised_from, dots_text, Put};
 
-use std::marker::Model;
-
-// A text of eight digits at most: in contracts, the list of them.
-#[derive(Drop)]
+// A text of eight digits at most, the first `count` of the bytes.
+#[derive(Clone, Copy)]
 pub struct Digits {
-    bytes: [u8; 8],
-    count: usize,
-}
-
-impl Model for Digits {
-    ghost Value = { List ℕ };
-
-    ghost view = { λ digits. take digits.count digits.bytes };
-
-    ghost invariant = { λ digits. digits.count ≤ 8 };
+    pub bytes: [u8; 8],
+    pub count: usize,
+    pub ghost within: { count ≤ 8 },
 }
 
 impl Digits {
     // The digits as bytes.
     pub fn as_slice(&self) -> &[u8]
-        ensures { result.now ≡ self.now }
+        ensures { result.now ≡ take self.now.count self.now.bytes }
     {
         &self.bytes[..self.count]
     }
@@ -76,7 +67,7 @@ pub fn hex_digits(n: u32) -> [u8; 8]
 
 // The digits of the raised dots. Each digit is written, and the next one takes its place where its dot is not raised.
 fn raised_digits(cell: u8) -> Digits
-    ensures { result ≡ raised_from 8 49 cell }
+    ensures { take result.count result.bytes ≡ raised_from 8 49 cell }
 {
     let mut bytes = [0u8; 8];
     let mut count = 0;
@@ -92,7 +83,7 @@ fn raised_digits(cell: u8) -> Digits
 // The dots of a cell, rising; `0` where none is raised.
 #[tactic(auto, using(basics::proofs::Tests::tests), unfolding(crate::specs::Writing::dots_text))]
 pub fn dots_digits(cell: u8) -> Digits
-    ensures { result ≡ dots_text cell }
+    ensures { take result.count result.bytes ≡ dots_text cell }
 {
     if cell == 0 {
         return Digits {

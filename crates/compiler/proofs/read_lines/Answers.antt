@@ -9,11 +9,11 @@ loop-line-init c =
 
 pub returns-in-Err : goal.returns-in-Err
 returns-in-Err c =
-    come_refused _ _ _ c.loop-line.state _ c.loop-line.invariant _ _ c.in-Some.ensures.steps _ _ c.in-Err.ensures c.in_line.ensures c.clear.ensures
+    come_refused _ _ _ c.loop-line.state _ c.loop-line.invariant _ _ c.in-Some.ensures.steps _ _ c.in-Err.ensures.leaves c.in-Err.ensures.same c.in_line.ensures c.clear.ensures
 
 pub loop-line-preserved : goal.loop-line-preserved
 loop-line-preserved c =
-    come_on _ _ _ c.loop-line.state _ c.loop-line.invariant _ _ c.in-Some.ensures.steps _ _ c.in-Ok.ensures (search rules)
+    come_on _ _ _ c.loop-line.state _ c.loop-line.invariant _ _ c.in-Some.ensures.steps _ _ c.in_default.ensures.leaves (search rules)
 
 pub returns : goal.returns
 returns c = come_end _ _ _ c.loop-line.state _ c.loop-line.invariant c.in-None.ensures.steps.0 c.close.ensures
